@@ -1,5 +1,5 @@
 -- The 576 lines of a spectrum.
-use Rattle.std.specs.Prelude.{◌≡◌, ℕ, ◌<◌, ◌^◌, List, ℤ, length, unsigned_abs, All}
+use Rattle.std.specs.Prelude.{◌≡◌, ◌<◌, ◌^◌, List, ℤ, length, unsigned_abs, All}
 
 -- a line is below 2^29 in absolute value
 abbrev pub IsLine : ℤ → Type 0
