@@ -1,0 +1,4 @@
+pub mod Encoding
+pub mod Program
+pub mod Status
+pub mod Words

@@ -1,0 +1,51 @@
+/// How a run of the program ended. Its number is the exit status.
+#[derive(Clone, Copy, Debug, PartialEq, Eq)]
+pub enum Status {
+    /// The command is done.
+    Ok = 0,
+    /// Memory ran out.
+    Memory = 1,
+    /// The words are no command.
+    Usage = 2,
+    /// The head is none of a WAV file.
+    BadWav = 3,
+    /// The WAV file is of a form that is never encoded.
+    Unsupported = 4,
+    /// A read failed.
+    ReadFault = 5,
+    /// A write failed, or took nothing.
+    WriteFault = 6,
+    /// The bytes are no stream of this encoder.
+    BadStream = 7,
+    /// The WAV file is of a form that this program does not encode yet.
+    Unbuilt = 8,
+}
+
+impl Status {
+    ghost use Rattle.std.specs.Prelude.{◌≡◌};
+    ghost use Rattle.mp3enc.specs.Status.{number_of, text_of};
+
+    /// The exit status.
+    pub fn number(self) -> u8
+        ensures { result ≡ number_of self }
+    {
+        self as u8
+    }
+
+    /// The line that notes are told, empty at success.
+    pub fn text(self) -> &'static [u8]
+        ensures { result.now ≡ text_of self }
+    {
+        match self {
+            Status::Usage => b"mp3enc: usage: mp3enc encode, check or demo FRAMES SEED\n",
+            Status::ReadFault => b"mp3enc: read fault\n",
+            Status::WriteFault => b"mp3enc: write fault\n",
+            Status::Unbuilt => b"mp3enc: unbuilt\n",
+            Status::Ok
+            | Status::Memory
+            | Status::BadWav
+            | Status::Unsupported
+            | Status::BadStream => b"",
+        }
+    }
+}

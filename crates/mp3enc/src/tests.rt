@@ -1,0 +1,170 @@
+use crate::{Status, run_alone};
+use l3_io::{MemSink, MemSource, Source};
+use std::alloc::{AllocError, Global};
+use std::test::Fail;
+
+// The head of a file of one channel at 44100 Hz, with no samples.
+const HEAD: [u8; 44] =
+    *b"RIFF\x24\0\0\0WAVEfmt \x10\0\0\0\x01\0\x01\0\x44\xAC\0\0\x88\x58\x01\0\x02\0\x10\0data\0\0\0\0";
+
+// A file of so many samples, of which the last has this low byte.
+fn wav(alloc: Global, samples: u16, last: u8) -> Result<Vec<u8>, AllocError> {
+    let size = u32::from(samples) * 2;
+    let mut bytes = Vec::new(alloc);
+    bytes.extend_from_slice(&HEAD[..40])?;
+    bytes.extend_from_slice(&size.to_le_bytes())?;
+    for n in 0..samples {
+        let low = if n + 1 == samples { last } else { 0 };
+        bytes.extend_from_slice(&[low, 0])?;
+    }
+    Ok(bytes)
+}
+
+// What a sink took, and what notes say of it.
+fn encoded(
+    rt: &HostRuntime,
+    words: &[&str],
+    bytes: &[u8],
+    room: usize,
+    fails: &[u64],
+) -> Result<(Option<Status>, MemSink, MemSink, MemSource), AllocError> {
+    let alloc = rt.alloc();
+    let mut source = MemSource::new(alloc, bytes, 100, fails)?;
+    let mut sink = MemSink::new(alloc, room, 300, &[])?;
+    let mut notes = MemSink::new(alloc, 100, 7, &[])?;
+    let status = run_alone(words, &mut source, &mut sink, &mut notes);
+    Ok((status, sink, notes, source))
+}
+
+#[test]
+fn one_zero_sample(rt: HostRuntime) -> Result<(), Fail> {
+    let bytes = wav(rt.alloc(), 1, 0)?;
+    let (status, sink, notes, _) = encoded(&rt, &["encode"], bytes.as_slice(), 10000, &[])?;
+    assert_eq!(rt; status, Some(Status::Ok));
+    let mut stream = [0; 835];
+    stream[..4].copy_from_slice(&[0xFF, 0xFB, 0x90, 0xC0]);
+    stream[417..423].copy_from_slice(&[0xFF, 0xFB, 0x92, 0xC0, 0xC6, 0x00]);
+    assert_eq!(rt; sink.bytes(), stream.as_slice());
+    assert_eq!(rt; notes.bytes().len(), 0);
+    Ok(())
+}
+
+#[test]
+fn zeros_over_two_frames(rt: HostRuntime) -> Result<(), Fail> {
+    let bytes = wav(rt.alloc(), 1153, 0)?;
+    let (status, sink, _, _) = encoded(&rt, &["encode"], bytes.as_slice(), 10000, &[])?;
+    assert_eq!(rt; status, Some(Status::Ok));
+    assert_eq!(rt; sink.bytes().len(), 417 + 418 + 418);
+    for (at, front) in [
+        (0, [0xFF, 0xFB, 0x90, 0xC0, 0x00, 0x00]),
+        (417, [0xFF, 0xFB, 0x92, 0xC0, 0xC6, 0x00]),
+        (835, [0xFF, 0xFB, 0x92, 0xC0, 0xFF, 0x80]),
+    ] {
+        let rest = sink.bytes().get(at..).unwrap_or(&[]);
+        assert!(rt; rest.starts_with(&front), "at {at}");
+    }
+    Ok(())
+}
+
+// What is refused, and what a fault leaves: status, bytes written, notes.
+#[test]
+fn refusals_and_faults(rt: HostRuntime) -> Result<(), Fail> {
+    let alloc = rt.alloc();
+    let none = wav(alloc, 0, 0)?;
+    let one = wav(alloc, 1, 0)?;
+    let other = wav(alloc, 1, 1)?;
+    let late = wav(alloc, 2000, 1)?;
+    let long = wav(alloc, 1153, 0)?;
+    let short = one.as_slice().get(..43).unwrap_or(&[]);
+    let encode = ["encode"].as_slice();
+    let more = ["encode", "x"].as_slice();
+    let usage = b"mp3enc: usage: mp3enc encode, check or demo FRAMES SEED\n".as_slice();
+    let unbuilt = b"mp3enc: unbuilt\n".as_slice();
+    for (name, words, bytes, room, fails, status, written, text) in [
+        (
+            "no_samples",
+            encode,
+            none.as_slice(),
+            10000,
+            [99],
+            Status::Ok,
+            0,
+            [].as_slice(),
+        ),
+        (
+            "sample_not_zero",
+            encode,
+            other.as_slice(),
+            10000,
+            [99],
+            Status::Unbuilt,
+            0,
+            unbuilt,
+        ),
+        (
+            "a late sample",
+            encode,
+            late.as_slice(),
+            10000,
+            [99],
+            Status::Unbuilt,
+            0,
+            unbuilt,
+        ),
+        (
+            "head_cut_short",
+            encode,
+            short,
+            10000,
+            [99],
+            Status::Unbuilt,
+            0,
+            unbuilt,
+        ),
+        (
+            "a_word_too_many",
+            more,
+            one.as_slice(),
+            10000,
+            [99],
+            Status::Usage,
+            0,
+            usage,
+        ),
+        (
+            "sink_fills_up",
+            encode,
+            one.as_slice(),
+            100,
+            [99],
+            Status::WriteFault,
+            100,
+            b"mp3enc: write fault\n".as_slice(),
+        ),
+        (
+            "read_fails_in_the_data",
+            encode,
+            long.as_slice(),
+            10000,
+            [2],
+            Status::ReadFault,
+            0,
+            b"mp3enc: read fault\n".as_slice(),
+        ),
+    ] {
+        let (answer, sink, notes, _) = encoded(&rt, words, bytes, room, &fails)?;
+        assert_eq!(rt; answer, Some(status), "{name}");
+        assert_eq!(rt; sink.bytes().len(), written, "{name}");
+        assert_eq!(rt; notes.bytes(), text, "{name}");
+    }
+    Ok(())
+}
+
+#[test]
+fn refused_words_read_nothing(rt: HostRuntime) -> Result<(), Fail> {
+    let bytes = wav(rt.alloc(), 1, 0)?;
+    let (_, _, _, mut source) = encoded(&rt, &["encode", "x"], bytes.as_slice(), 10000, &[])?;
+    let mut buffer = [0; 50];
+    assert_eq!(rt; source.read(&mut buffer), Ok(46));
+    Ok(())
+}
