@@ -1,0 +1,15 @@
+pub mod Entries
+pub mod Shapes
+pub mod Tails
+pub mod PairLaws
+pub mod QuadLaws
+pub mod Joined
+pub mod TableCodes
+pub mod Lengths
+pub mod Quadruples
+pub mod WordFacts
+pub mod Windows
+pub mod Betweens
+pub mod SignReading
+pub mod ValueReading
+pub mod Stands

@@ -1,0 +1,7 @@
+pub mod Tables
+pub mod Codes
+pub mod Facts
+pub mod Reading
+pub mod Standing
+pub mod Laws
+pub mod Words
