@@ -1,0 +1,7 @@
+use Rattle.std.proofs.Common.{refl}
+use Rattle.l3_tables.specs.Sums.{sum_below, size_below}
+use Rattle.l3_tables.proofs.rates.rate_sums.Goals as goal
+
+pub returns : goal.returns
+unfolding sum_below size_below
+returns c = record { total_is = refl; size_is = refl; weighed_is = refl }
