@@ -1,0 +1,4 @@
+pub mod Bounds
+pub mod Casts
+pub mod SubbandLines
+pub mod Reduction

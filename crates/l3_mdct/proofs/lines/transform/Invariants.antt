@@ -1,0 +1,10 @@
+use Rattle.std.proofs.Common.{◌≡◌, ℕ, ◌*◌, ◌<◌, length}
+use Rattle.l3_tables.specs.Lists.{entry}
+use Rattle.l3_mdct.specs.Spectrum.{line_before}
+use Rattle.l3_mdct.proofs.lines.transform.Given as goal
+
+abbrev pub invariant-loop-band : goal.invariant-loop-band
+invariant-loop-band l = record {
+  long : length l.lines ≡ 576;
+  value : (n : ℕ) → n < 18 * l.band → entry l.lines n ≡ line_before l.slots n;
+}

@@ -1,0 +1,4 @@
+pub mod Rounding
+pub mod Shapes
+pub mod WindowSlots
+pub mod FoldLaw

@@ -1,0 +1,64 @@
+ghost use Rattle.std.specs.Prelude.{◌≡◌, ◌≢◌, ◌<◌, ◌^◌, ℕ, All, pos, length};
+ghost use Rattle.l3_base.specs.Slots.{slot_in};
+ghost use Rattle.l3_tables.specs.Lists.{entry, tabulate};
+ghost use Rattle.l3_tables.specs.Sums.{IsWithin};
+ghost use Rattle.l3_tables.specs.Filterbank.{slot_sum, slots_of, turned};
+ghost use Rattle.l3_polyphase.specs.Samples.{HasShape};
+
+use crate::columns::subbands;
+use l3_base::Slots36;
+
+/// The slots of the 32 subbands of 512 samples, the newest first.
+///
+/// Units: 2^-24 of full scale.
+pub fn slot(window: &[i16; 512], out: &mut [i32; 32])
+    ensures value { out.new ≡ tabulate 32 (slot_sum (entry window.now)) }
+    ensures bound { All (IsWithin 44598016) out.new }
+{
+    let mut samples = *window;
+    samples.reverse();
+    subbands(&samples, out);
+}
+
+/// The 36 slots of the 32 subbands of a granule's window, in order of time.
+///
+/// Odd slots of odd subbands are negated. Units: 2^-24 of full scale.
+pub fn slots36(window: &[i16; 1632], out: &mut Slots36)
+    ensures value { out.new ≡ slots_of window.now }
+    ensures bound { All (All (IsWithin 44598016)) out.new }
+{
+    let mut slots = [0i32; 32];
+    *out = Slots36::zero();
+    for k in 0..36 {
+        subbands(&window[32 * k..32 * k + 512], &mut slots);
+        set_slots(out, k, &slots);
+    }
+}
+
+/// Sets slot `k` of each subband.
+fn set_slots(out: &mut Slots36, k: usize, slots: &[i32; 32])
+    requires slot { k < 36 }
+    requires shape { HasShape out.old }
+    requires small { All (IsWithin 44598016) slots.now }
+    ensures shape { HasShape out.new }
+    ensures set { (i : ℕ) → i < 32 → slot_in out.new i k ≡ turned i k (entry slots.now i) }
+    ensures others { (i m : ℕ) → i < 32 → m ≢ k → slot_in out.new i m ≡ slot_in out.old i m }
+{
+    for i in 0..32 {
+        out.set(i, k, turned_at(i, k, slots[i]));
+    }
+}
+
+/// A slot with the other sign where its number and its subband are odd.
+#[inline(always)]
+fn turned_at(i: usize, k: usize, slot: i32) -> i32
+    requires { IsWithin 44598016 slot }
+    ensures value { result ≡ turned i k slot }
+    ensures bound { IsWithin 44598016 result }
+{
+    if i % 2 == 1 && k % 2 == 1 {
+        -slot
+    } else {
+        slot
+    }
+}
