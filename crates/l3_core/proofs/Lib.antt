@@ -1,0 +1,7 @@
+pub mod BalanceLemmas
+pub mod CellLemmas
+pub mod FlowLemmas
+pub mod LeastLemmas
+pub mod OutcomeLemmas
+pub mod RunLemmas
+pub mod StepLemmas

@@ -1,0 +1,4 @@
+pub mod Machine
+pub mod Replies
+pub mod Items
+pub mod Laws
