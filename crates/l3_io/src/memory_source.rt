@@ -110,6 +110,7 @@ impl Model for SteadySource {
 }
 
 impl SteadySource {
+    /// All of these bytes are still to come.
     pub fn new(alloc: Global, bytes: &[u8]) -> Result<SteadySource, AllocError>
         ensures { IfOk result (λ s. s ≡ bytes.now) }
     {

@@ -66,105 +66,72 @@ fn zeros_over_two_frames(rt: HostRuntime) -> Result<(), Fail> {
     Ok(())
 }
 
-// What is refused, and what a fault leaves: status, bytes written, notes.
 #[test]
-fn refusals_and_faults(rt: HostRuntime) -> Result<(), Fail> {
-    let alloc = rt.alloc();
-    let none = wav(alloc, 0, 0)?;
-    let one = wav(alloc, 1, 0)?;
-    let other = wav(alloc, 1, 1)?;
-    let late = wav(alloc, 2000, 1)?;
-    let long = wav(alloc, 1153, 0)?;
-    let short = one.as_slice().get(..43).unwrap_or(&[]);
-    let encode = ["encode"].as_slice();
-    let more = ["encode", "x"].as_slice();
-    let usage = b"mp3enc: usage: mp3enc encode, check or demo FRAMES SEED\n".as_slice();
-    let unbuilt = b"mp3enc: unbuilt\n".as_slice();
-    for (name, words, bytes, room, fails, status, written, text) in [
-        (
-            "no_samples",
-            encode,
-            none.as_slice(),
-            10000,
-            [99],
-            Status::Ok,
-            0,
-            [].as_slice(),
-        ),
-        (
-            "sample_not_zero",
-            encode,
-            other.as_slice(),
-            10000,
-            [99],
-            Status::Unbuilt,
-            0,
-            unbuilt,
-        ),
-        (
-            "a late sample",
-            encode,
-            late.as_slice(),
-            10000,
-            [99],
-            Status::Unbuilt,
-            0,
-            unbuilt,
-        ),
-        (
-            "head_cut_short",
-            encode,
-            short,
-            10000,
-            [99],
-            Status::Unbuilt,
-            0,
-            unbuilt,
-        ),
-        (
-            "a_word_too_many",
-            more,
-            one.as_slice(),
-            10000,
-            [99],
-            Status::Usage,
-            0,
-            usage,
-        ),
-        (
-            "sink_fills_up",
-            encode,
-            one.as_slice(),
-            100,
-            [99],
-            Status::WriteFault,
-            100,
-            b"mp3enc: write fault\n".as_slice(),
-        ),
-        (
-            "read_fails_in_the_data",
-            encode,
-            long.as_slice(),
-            10000,
-            [2],
-            Status::ReadFault,
-            0,
-            b"mp3enc: read fault\n".as_slice(),
-        ),
-    ] {
-        let (answer, sink, notes, _) = encoded(&rt, words, bytes, room, &fails)?;
-        assert_eq!(rt; answer, Some(status), "{name}");
-        assert_eq!(rt; sink.bytes().len(), written, "{name}");
-        assert_eq!(rt; notes.bytes(), text, "{name}");
+fn no_samples(rt: HostRuntime) -> Result<(), Fail> {
+    let bytes = wav(rt.alloc(), 0, 0)?;
+    let (status, sink, _, _) = encoded(&rt, &["encode"], bytes.as_slice(), 10000, &[])?;
+    assert_eq!(rt; status, Some(Status::Ok));
+    assert_eq!(rt; sink.bytes().len(), 0);
+    Ok(())
+}
+
+#[test]
+fn sample_not_zero(rt: HostRuntime) -> Result<(), Fail> {
+    for samples in [1, 2000] {
+        let bytes = wav(rt.alloc(), samples, 1)?;
+        let (status, sink, notes, _) = encoded(&rt, &["encode"], bytes.as_slice(), 10000, &[])?;
+        assert_eq!(rt; status, Some(Status::Unbuilt));
+        assert_eq!(rt; sink.bytes().len(), 0);
+        assert_eq!(rt; notes.bytes(), b"mp3enc: unbuilt\n".as_slice());
     }
     Ok(())
 }
 
 #[test]
-fn refused_words_read_nothing(rt: HostRuntime) -> Result<(), Fail> {
+fn head_cut_short(rt: HostRuntime) -> Result<(), Fail> {
+    let (status, sink, _, _) = encoded(&rt, &["encode"], &HEAD[..43], 10000, &[])?;
+    assert_eq!(rt; status, Some(Status::Unbuilt));
+    assert_eq!(rt; sink.bytes().len(), 0);
+    Ok(())
+}
+
+#[test]
+fn a_word_too_many(rt: HostRuntime) -> Result<(), Fail> {
     let bytes = wav(rt.alloc(), 1, 0)?;
-    let (_, _, _, mut source) = encoded(&rt, &["encode", "x"], bytes.as_slice(), 10000, &[])?;
-    let mut buffer = [0; 50];
-    assert_eq!(rt; source.read(&mut buffer), Ok(46));
+    let (status, sink, notes, mut source) = encoded(
+        &rt,
+        &["encode", "x"],
+        bytes.as_slice(),
+        10000,
+        &[],
+    )?;
+    assert_eq!(rt; status, Some(Status::Usage));
+    assert_eq!(rt; sink.bytes().len(), 0);
+    let usage = b"mp3enc: usage: mp3enc encode, check or demo FRAMES SEED\n";
+    assert_eq!(rt; notes.bytes(), usage.as_slice());
+    let mut unread = [0; 50];
+    assert_eq!(rt; source.read(&mut unread), Ok(46));
+    Ok(())
+}
+
+#[test]
+fn sink_fills_up(rt: HostRuntime) -> Result<(), Fail> {
+    let bytes = wav(rt.alloc(), 1, 0)?;
+    let (status, sink, notes, _) = encoded(&rt, &["encode"], bytes.as_slice(), 100, &[])?;
+    assert_eq!(rt; status, Some(Status::WriteFault));
+    let mut front = [0; 100];
+    front[..4].copy_from_slice(&[0xFF, 0xFB, 0x90, 0xC0]);
+    assert_eq!(rt; sink.bytes(), front.as_slice());
+    assert_eq!(rt; notes.bytes(), b"mp3enc: write fault\n".as_slice());
+    Ok(())
+}
+
+#[test]
+fn read_fails_in_the_data(rt: HostRuntime) -> Result<(), Fail> {
+    let bytes = wav(rt.alloc(), 1153, 0)?;
+    let (status, sink, notes, _) = encoded(&rt, &["encode"], bytes.as_slice(), 10000, &[2])?;
+    assert_eq!(rt; status, Some(Status::ReadFault));
+    assert_eq!(rt; sink.bytes().len(), 0);
+    assert_eq!(rt; notes.bytes(), b"mp3enc: read fault\n".as_slice());
     Ok(())
 }
