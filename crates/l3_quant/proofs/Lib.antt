@@ -1,0 +1,6 @@
+pub mod Powers
+pub mod ReachedLemmas
+pub mod Scales
+pub mod Entries
+pub mod Blocks
+pub mod Codable

@@ -1,0 +1,22 @@
+use Rattle.std.proofs.Common.{◌<◌, ◌-◌, arith}
+use Rattle.l3_quant.specs.Quantiser.{magnitude_at}
+use Rattle.l3_quant.proofs.Codable.{magnitude_at-top, magnitude_at-steps}
+use Rattle.l3_quant.proofs.gains.least_gain.Goals as goal
+
+pub loop-low-init : goal.loop-low-init
+loop-low-init c = record {
+  ordered = omega arith;
+  within = omega arith;
+  coded = omega (arith, magnitude_at-top c.args.x c.requires);
+  least = λ k lt. absurd (omega arith);
+}
+
+pub loop-low-preserved : goal.loop-low-preserved
+loop-low-preserved c =
+    let here : 8191 < magnitude_at c.args.x (258 - c.from.result) = omega arith in
+    record {
+      ordered = omega arith;
+      within = omega arith;
+      coded = c.loop-low.invariant.coded;
+      least = λ k lt. omega (arith, magnitude_at-steps c.args.x (258 - c.from.result) (258 - k) (omega arith));
+    }

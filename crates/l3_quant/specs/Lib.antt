@@ -1,0 +1,4 @@
+pub use Rattle.l3_base.specs.Spectrum
+pub mod Quantiser
+pub mod Gains
+pub mod Thresholds

@@ -1,0 +1,21 @@
+-- The thresholds of the quantised values.
+use Rattle.std.specs.Prelude.{ℕ, ◌≤◌, slice_index}
+use Rattle.l3_quant.specs.declared.thresholds.TheConstants.{THRESHOLDS, FIRST, MIDDLE}
+use Rattle.l3_quant.specs.Quantiser.{Reaches}
+
+-- y is the least that reaches n
+pub record IsThreshold (n y : ℕ) : Type 0 where
+  pub reaches : Reaches y n
+  pub least : (z : ℕ) → Reaches z n → y ≤ z
+
+-- the threshold of n
+unfoldable pub threshold_at : ℕ → ℕ
+threshold_at n = slice_index THRESHOLDS n
+
+-- what the first number of a block of 1024 reaches
+unfoldable pub first_at : ℕ → ℕ
+first_at block = slice_index FIRST block
+
+-- what the first number of a block of 8192 reaches
+unfoldable pub middle_at : ℕ → ℕ
+middle_at block = slice_index MIDDLE block
