@@ -1,0 +1,3 @@
+pub mod LastEight
+pub mod Rows
+pub mod ScorePlaces

@@ -1,0 +1,3 @@
+pub mod Guesses
+pub mod Laws
+pub mod Scores
