@@ -1,0 +1,3 @@
+pub use Rattle.l3_base.specs.Lengths
+pub mod Budget
+pub mod Laws
