@@ -1,2 +1,5 @@
+pub mod BodyLemmas
+pub mod ChunkLemmas
 pub mod HeadLemmas
+pub mod OpenLemmas
 pub mod SampleLemmas

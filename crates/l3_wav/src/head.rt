@@ -1,23 +1,14 @@
-ghost use Rattle.std.specs.Prelude.{◌≡◌, ◌≢◌, ◌≤◌, true, List, ℕ, Some, Ok, Err, IfSome, OnOk, OnErr, length, take};
+ghost use Rattle.std.specs.Prelude.{◌≡◌, ◌≢◌, ◌-◌, ◌≤◌, List, ℕ, None, Some, Ok, Err, IfSome, OnOk, OnErr, length, take, bytes_eq};
 ghost use Rattle.std.specs.Io.KnownBytes.{Consumes};
 ghost use Rattle.l3_io.specs.Causes.{Rose};
-ghost use Rattle.l3_wav.specs.Wav.{is_built_head, head_of, wav_of, after_head, OpenGives};
+ghost use Rattle.l3_wav.specs.Wav.{is_riff, padded, format_after, fields_in, head_by, chunks_from, most_chunks, head_limit, wav_of, after_head, OpenGives};
+ghost use Rattle.l3_wav.specs.Steps.{ReadsBody, Opens};
 
+use crate::WavFault;
+use crate::fields::{Format, read_format, u32_at};
+use crate::reading::{fill, skip};
 use l3_base::{Channels, SampleRate};
-use l3_io::{Source, read_full};
-use thiserror::Error;
-
-/// Bytes of the one head: RIFF, the format chunk of 16 bytes and the data chunk's own 8 bytes.
-const HEAD_BYTES: usize = 44;
-
-/// Bytes 0 to 3.
-const RIFF: [u8; 4] = *b"RIFF";
-
-/// Bytes 8 to 27: form WAVE, a format chunk of 16 bytes, PCM, one channel, 44100 Hz.
-const WAVE_AND_FORMAT: [u8; 20] = *b"WAVEfmt \x10\0\0\0\x01\0\x01\0\x44\xAC\0\0";
-
-/// Bytes 32 to 39: block align 2, 16 bits, and the data chunk's id.
-const DEPTH_AND_DATA: [u8; 8] = *b"\x02\0\x10\0data";
+use l3_io::Source;
 
 /// What the head of a WAV file says.
 #[derive(Clone, Copy, Debug, PartialEq, Eq)]
@@ -28,55 +19,124 @@ pub struct WavHead {
     pub data_bytes: u32,
 }
 
-/// Why a WAV file was not opened.
-#[derive(Clone, Copy, Debug, PartialEq, Eq, Error)]
-pub enum WavFault {
-    #[error("a read failed")]
-    Read = 10,
-    #[error("a head of another form than the one that is built")]
-    Unbuilt = 11,
-}
+/// The most bytes that may stand before the chunk `data`: this project's own.
+const HEAD_LIMIT: usize = 1048576;
 
-// Whether these are the bytes of the one head.
-fn is_built(head: &[u8]) -> bool
-    ensures value { result ≡ is_built_head head.now }
-    ensures long { result ≡ true → 44 ≤ length head.now }
+/// Bytes of the file's id, its size and its form.
+const RIFF_BYTES: usize = 12;
+
+/// Bytes of a chunk's id and its size.
+const CHUNK_BYTES: usize = 8;
+
+/// Bytes of a format's body that have fields.
+const FIELD_BYTES: usize = 40;
+
+// Whether a file that begins so is RIFF, of form WAVE.
+fn is_riff(head: &[u8]) -> bool
+    requires { length head.now ≡ 12 }
+    ensures { result ≡ is_riff head.now }
 {
-    head.len() >= HEAD_BYTES
-        && &head[0..4] == &RIFF[..]
-        && &head[8..28] == &WAVE_AND_FORMAT[..]
-        && &head[32..40] == &DEPTH_AND_DATA[..]
+    &head[0..4] == b"RIFF".as_slice() && &head[8..12] == b"WAVE".as_slice()
 }
 
-// What the first bytes of a file say.
-fn read_head(head: &[u8]) -> Result<WavHead, WavFault>
-    ensures value { result ≡ head_of head.now }
-    ensures long { OnOk result (44 ≤ length head.now) }
-    ensures built { result ≢ Err WavFault.Read }
+// Whether a chunk that begins so has this id.
+fn has_id(head: &[u8], id: &[u8]) -> bool
+    requires { length head.now ≡ 8 }
+    ensures { result ≡ bytes_eq (take 4 head.now) id.now }
 {
-    if !is_built(head) {
-        return Err(WavFault::Unbuilt);
-    }
-    Ok(WavHead {
-        channels: Channels::Mono,
-        rate: SampleRate::Hz44100,
-        data_bytes: u32::from_le_bytes([head[40], head[41], head[42], head[43]]),
-    })
+    &head[..4] == id
 }
 
-/// Reads the head of a WAV file, and no byte after it.
-pub fn open<S: Source>(source: &mut S) -> Result<WavHead, WavFault>
-    ensures told { IfSome (S.left source.old) (λ bytes. OpenGives (S.faults source.old) (S.faults source.new) result (wav_of bytes)) }
-    ensures rest { OnOk result (IfSome (S.left source.old) (λ bytes. S.left source.new ≡ Some (after_head bytes))) }
+// The bytes of a body with its pad byte.
+fn padded(size: u32) -> usize
+    ensures { result ≡ padded size }
+{
+    size as usize + (size % 2) as usize
+}
 
-    // After a refusal no more than a head's bytes are gone.
-    ensures some { OnErr result ((bytes : List ℕ) × (length bytes ≤ 44) × Consumes (S.left source.old) (S.left source.new) bytes) }
+// Reads a chunk's body with its pad byte, and says which format is known then.
+fn read_body<S: Source>(
+    source: &mut S,
+    format: Option<Format>,
+    is_format: bool,
+    size: u32,
+) -> Result<Option<Format>, WavFault>
+    ensures told { IfSome (S.left source.old) (λ bytes.
+        ReadsBody (padded size) bytes (S.left source.new) result (format_after format is_format (fields_in size bytes))) }
+    ensures some { OnErr result ((bytes : List ℕ) × (length bytes ≤ padded size) × Consumes (S.left source.old) (S.left source.new) bytes) }
     ensures later { S.faults source.old ≤ S.faults source.new }
     ensures read { result ≡ Err WavFault.Read → Rose (S.faults source.old) (S.faults source.new) }
 {
-    let mut head = [0u8; HEAD_BYTES];
-    match read_full(source, &mut head) {
-        Ok(count) => read_head(&head[..count]),
-        Err(_) => Err(WavFault::Read),
+    if format.is_some() || !is_format {
+        skip(source, padded(size))?;
+        return Ok(format);
     }
+    let mut fields = [0; FIELD_BYTES];
+    let fields = &mut fields[..(size as usize).min(FIELD_BYTES)];
+    fill(source, fields)?;
+    skip(source, padded(size) - fields.len())?;
+    Ok(Some(read_format(fields)?))
+}
+
+// The head where the data begins.
+fn data_head(format: Option<Format>, size: u32) -> Result<WavHead, WavFault>
+    ensures value { result ≡ head_by format size }
+    ensures own { result ≢ Err WavFault.Read }
+{
+    match format {
+        Some(format) => Ok(WavHead {
+            channels: format.channels,
+            rate: format.rate,
+            data_bytes: size,
+        }),
+        None => Err(WavFault::NoFmtBeforeData),
+    }
+}
+
+// Reads chunks up to the first byte of the data.
+fn read_chunks<S: Source>(source: &mut S) -> Result<WavHead, WavFault>
+    ensures told { IfSome (S.left source.old) (λ bytes. Opens result (S.left source.new) (chunks_from most_chunks None 12 bytes)) }
+    ensures some { OnErr result ((bytes : List ℕ) × (length bytes ≤ head_limit - 4) × Consumes (S.left source.old) (S.left source.new) bytes) }
+    ensures later { S.faults source.old ≤ S.faults source.new }
+    ensures read { result ≡ Err WavFault.Read → Rose (S.faults source.old) (S.faults source.new) }
+{
+    let mut format = None;
+    let mut read = RIFF_BYTES;
+    loop {
+        let mut head = [0; CHUNK_BYTES];
+        fill(source, &mut head)?;
+        let size = u32_at(&head, 4);
+        if has_id(&head, b"data") {
+            return data_head(format, size);
+        }
+        let end = read + CHUNK_BYTES + padded(size);
+        if end > HEAD_LIMIT {
+            return Err(WavFault::HeaderTooLong);
+        }
+        format = read_body(source, format, has_id(&head, b"fmt "), size)?;
+        read = end;
+    }
+}
+
+/// Reads the head of a WAV file, and no byte after it.
+///
+/// The format is PCM of 16 bits, plain or extensible, with one channel or two, at 44100, 48000 or 32000 Hz. The size of
+/// the file and the byte rate may be anything, and the data may declare more bytes than are there, as where it comes
+/// from a pipe. A second format chunk and chunks of other kinds are passed over.
+pub fn open<S: Source>(source: &mut S) -> Result<WavHead, WavFault>
+    ensures told { IfSome (S.left source.old) (λ bytes. OpenGives (S.faults source.old) (S.faults source.new) result (wav_of bytes)) }
+    ensures rest { OnOk result (IfSome (S.left source.old) (λ bytes. S.left source.new ≡ Some (after_head bytes))) }
+    ensures refused { OnErr result (result ≢ Err WavFault.Read → IfSome (S.left source.old) (λ bytes. S.left source.new ≡ Some (after_head bytes))) }
+
+    // Even where a read failed no more is gone than the longest head and the first bytes of a chunk.
+    ensures some { OnErr result ((bytes : List ℕ) × (length bytes ≤ 1048584) × Consumes (S.left source.old) (S.left source.new) bytes) }
+    ensures later { S.faults source.old ≤ S.faults source.new }
+    ensures read { result ≡ Err WavFault.Read → Rose (S.faults source.old) (S.faults source.new) }
+{
+    let mut head = [0; RIFF_BYTES];
+    fill(source, &mut head)?;
+    if !is_riff(&head) {
+        return Err(WavFault::NotRiff);
+    }
+    read_chunks(source)
 }

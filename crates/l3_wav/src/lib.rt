@@ -3,10 +3,16 @@
 //! Before: `l3_io`, sources of bytes. After: the program, which encodes the samples.
 #![tactic(auto)]
 
+mod fault;
+mod fields;
 mod head;
+mod laws;
+mod reading;
 mod samples;
 
-pub use head::{WavFault, WavHead, open};
+pub use fault::WavFault;
+pub use head::{WavHead, open};
+pub use laws::chunks_in_a_head;
 pub use samples::Samples;
 
 #[cfg(test)]

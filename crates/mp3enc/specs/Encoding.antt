@@ -6,7 +6,7 @@ use Rattle.l3_base.specs.declared.settings.Settings.{Settings}
 use Rattle.l3_base.specs.declared.rate.Rate.TheVariants.{K128}
 use Rattle.l3_base.specs.Rates.{channels_of}
 use Rattle.l3_wav.specs.declared.head.WavHead.{WavHead}
-use Rattle.l3_wav.specs.declared.head.WavFault.{WavFault}
+use Rattle.l3_wav.specs.declared.fault.WavFault.{WavFault}
 use Rattle.l3_wav.specs.Wav.{wav_of, after_head}
 use Rattle.l3_wav.specs.Samples.{coming, unread}
 use Rattle.l3_frames.specs.Silence.{silence_of}

@@ -1,23 +1,11 @@
--- The number and the text of a status.
+-- How a run ended: its status, the number and the text of it.
 use Rattle.std.specs.Prelude.{List, ℕ, [], ◌∷◌, ◌++◌, codes}
+use Rattle.l3_wav.specs.declared.fault.WavFault.{WavFault}
+use Rattle.l3_wav.specs.declared.fault.WavFault.TheVariants as fault
 use Rattle.mp3enc.specs.declared.status.Status.{Status}
 use Rattle.mp3enc.specs.declared.status.Status.TheVariants as status
-
--- a line of text
-abbrev pub line : List ℕ → List ℕ
-line text = text ++ 10 ∷ []
-
--- what notes are told; the statuses that never come have no text yet
-abbrev pub text_of : Status → List ℕ
-text_of status.Usage = line (codes "mp3enc: usage: mp3enc encode, check or demo FRAMES SEED")
-text_of status.ReadFault = line (codes "mp3enc: read fault")
-text_of status.WriteFault = line (codes "mp3enc: write fault")
-text_of status.Unbuilt = line (codes "mp3enc: unbuilt")
-text_of status.Ok = []
-text_of status.Memory = []
-text_of status.BadWav = []
-text_of status.Unsupported = []
-text_of status.BadStream = []
+use Rattle.mp3enc.specs.declared.ending.Ending.{Ending}
+use Rattle.mp3enc.specs.declared.ending.Ending.TheVariants as ending
 
 -- the exit status
 abbrev pub number_of : Status → ℕ
@@ -30,3 +18,51 @@ number_of status.ReadFault = 5
 number_of status.WriteFault = 6
 number_of status.BadStream = 7
 number_of status.Unbuilt = 8
+
+-- the status of a head that is refused: no WAV file, or one of a form that is never encoded
+abbrev pub refusal_of : WavFault → Status
+refusal_of fault.NotRiff = status.BadWav
+refusal_of fault.HeaderEnds = status.BadWav
+refusal_of fault.NoFmtBeforeData = status.BadWav
+refusal_of fault.HeaderTooLong = status.BadWav
+refusal_of fault.UnsupportedFormat = status.Unsupported
+refusal_of fault.UnsupportedChannels = status.Unsupported
+refusal_of fault.UnsupportedRate = status.Unsupported
+refusal_of fault.UnsupportedDepth = status.Unsupported
+refusal_of fault.BadBlockAlign = status.BadWav
+refusal_of fault.Read = status.ReadFault
+
+-- the status of an ending
+abbrev pub status_of : Ending → Status
+status_of ending.Done = status.Ok
+status_of ending.Usage = status.Usage
+status_of (ending.Refused why) = refusal_of why
+status_of ending.ReadFault = status.ReadFault
+status_of ending.WriteFault = status.WriteFault
+status_of ending.Unbuilt = status.Unbuilt
+
+-- a line of text
+abbrev pub line : List ℕ → List ℕ
+line text = text ++ 10 ∷ []
+
+-- the line of a head that is refused, by its fault's name
+abbrev pub refusal_text : WavFault → List ℕ
+refusal_text fault.NotRiff = line (codes "mp3enc: wav: NotRiff")
+refusal_text fault.HeaderEnds = line (codes "mp3enc: wav: HeaderEnds")
+refusal_text fault.NoFmtBeforeData = line (codes "mp3enc: wav: NoFmtBeforeData")
+refusal_text fault.HeaderTooLong = line (codes "mp3enc: wav: HeaderTooLong")
+refusal_text fault.UnsupportedFormat = line (codes "mp3enc: wav: UnsupportedFormat")
+refusal_text fault.UnsupportedChannels = line (codes "mp3enc: wav: UnsupportedChannels")
+refusal_text fault.UnsupportedRate = line (codes "mp3enc: wav: UnsupportedRate")
+refusal_text fault.UnsupportedDepth = line (codes "mp3enc: wav: UnsupportedDepth")
+refusal_text fault.BadBlockAlign = line (codes "mp3enc: wav: BadBlockAlign")
+refusal_text fault.Read = line (codes "mp3enc: read fault")
+
+-- what notes are told
+abbrev pub text_of : Ending → List ℕ
+text_of ending.Done = []
+text_of ending.Usage = line (codes "mp3enc: usage: mp3enc encode, check or demo FRAMES SEED")
+text_of (ending.Refused why) = refusal_text why
+text_of ending.ReadFault = line (codes "mp3enc: read fault")
+text_of ending.WriteFault = line (codes "mp3enc: write fault")
+text_of ending.Unbuilt = line (codes "mp3enc: unbuilt")

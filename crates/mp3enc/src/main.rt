@@ -3,6 +3,7 @@
 //! Before: `l3_wav` and `l3_frames`. After: nothing; this is the program.
 #![tactic(auto)]
 
+mod ending;
 mod program;
 mod status;
 mod zeros;

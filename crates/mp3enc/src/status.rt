@@ -23,29 +23,12 @@ pub enum Status {
 
 impl Status {
     ghost use Rattle.std.specs.Prelude.{◌≡◌};
-    ghost use Rattle.mp3enc.specs.Status.{number_of, text_of};
+    ghost use Rattle.mp3enc.specs.Status.{number_of};
 
     /// The exit status.
     pub fn number(self) -> u8
         ensures { result ≡ number_of self }
     {
         self as u8
-    }
-
-    /// The line that notes are told, empty at success.
-    pub fn text(self) -> &'static [u8]
-        ensures { result.now ≡ text_of self }
-    {
-        match self {
-            Status::Usage => b"mp3enc: usage: mp3enc encode, check or demo FRAMES SEED\n",
-            Status::ReadFault => b"mp3enc: read fault\n",
-            Status::WriteFault => b"mp3enc: write fault\n",
-            Status::Unbuilt => b"mp3enc: unbuilt\n",
-            Status::Ok
-            | Status::Memory
-            | Status::BadWav
-            | Status::Unsupported
-            | Status::BadStream => b"",
-        }
     }
 }

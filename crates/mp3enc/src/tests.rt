@@ -7,7 +7,7 @@ use std::test::Fail;
 const HEAD: [u8; 44] =
     *b"RIFF\x24\0\0\0WAVEfmt \x10\0\0\0\x01\0\x01\0\x44\xAC\0\0\x88\x58\x01\0\x02\0\x10\0data\0\0\0\0";
 
-// A file of so many samples, of which the last has this low byte.
+// A file of one channel at 44100 Hz with so many samples, of which the last has this low byte.
 fn wav(alloc: Global, samples: u16, last: u8) -> Result<Vec<u8>, AllocError> {
     let size = u32::from(samples) * 2;
     let mut bytes = Vec::new(alloc);
@@ -88,10 +88,102 @@ fn sample_not_zero(rt: HostRuntime) -> Result<(), Fail> {
 }
 
 #[test]
-fn head_cut_short(rt: HostRuntime) -> Result<(), Fail> {
-    let (status, sink, _, _) = encoded(&rt, &["encode"], &HEAD[..43], 10000, &[])?;
-    assert_eq!(rt; status, Some(Status::Unbuilt));
-    assert_eq!(rt; sink.bytes().len(), 0);
+fn refused_heads(rt: HostRuntime) -> Result<(), Fail> {
+    // With this byte of the head changed to this one, the status and what notes are told.
+    for (at, byte, status, text) in [
+        (
+            3,
+            b'X',
+            Status::BadWav,
+            b"mp3enc: wav: NotRiff\n".as_slice(),
+        ),
+        (
+            12,
+            b'x',
+            Status::BadWav,
+            b"mp3enc: wav: NoFmtBeforeData\n".as_slice(),
+        ),
+        (
+            18,
+            0x10,
+            Status::BadWav,
+            b"mp3enc: wav: HeaderTooLong\n".as_slice(),
+        ),
+        (
+            20,
+            2,
+            Status::Unsupported,
+            b"mp3enc: wav: UnsupportedFormat\n".as_slice(),
+        ),
+        (
+            22,
+            3,
+            Status::Unsupported,
+            b"mp3enc: wav: UnsupportedChannels\n".as_slice(),
+        ),
+        (
+            24,
+            0x45,
+            Status::Unsupported,
+            b"mp3enc: wav: UnsupportedRate\n".as_slice(),
+        ),
+        (
+            34,
+            8,
+            Status::Unsupported,
+            b"mp3enc: wav: UnsupportedDepth\n".as_slice(),
+        ),
+        (
+            32,
+            4,
+            Status::BadWav,
+            b"mp3enc: wav: BadBlockAlign\n".as_slice(),
+        ),
+    ] {
+        let mut head = HEAD;
+        head[at] = byte;
+        let (answer, sink, notes, _) = encoded(&rt, &["encode"], &head, 10000, &[])?;
+        assert_eq!(rt; answer, Some(status));
+        assert_eq!(rt; sink.bytes().len(), 0);
+        assert_eq!(rt; notes.bytes(), text);
+    }
+    Ok(())
+}
+
+#[test]
+fn heads_cut_short(rt: HostRuntime) -> Result<(), Fail> {
+    for length in [0, 11, 43] {
+        let head = HEAD.get(..length).unwrap_or(&[]);
+        let (status, sink, notes, _) = encoded(&rt, &["encode"], head, 10000, &[])?;
+        assert_eq!(rt; status, Some(Status::BadWav));
+        assert_eq!(rt; sink.bytes().len(), 0);
+        assert_eq!(rt; notes.bytes(), b"mp3enc: wav: HeaderEnds\n".as_slice());
+    }
+    Ok(())
+}
+
+#[test]
+fn silence_in_stereo_at_each_rate(rt: HostRuntime) -> Result<(), Fail> {
+    // Low bytes of the rate, bytes of the stream, place and first bytes of its second frame.
+    for (low, next, length, second, front) in [
+        (0x44, 0xAC, 835, 417, [0xFF, 0xFB, 0x92, 0x00, 0xBE, 0x80]),
+        (0x80, 0xBB, 768, 384, [0xFF, 0xFB, 0x94, 0x00, 0xAE, 0x00]),
+        (0x00, 0x7D, 1152, 576, [0xFF, 0xFB, 0x98, 0x00, 0xBF, 0x80]),
+    ] {
+        // Five bytes of a size that a pipe declares: one sample of each channel and a rest.
+        let mut bytes = [0; 49];
+        bytes[..44].copy_from_slice(&HEAD);
+        bytes[22] = 2;
+        bytes[24] = low;
+        bytes[25] = next;
+        bytes[32] = 4;
+        bytes[40..44].copy_from_slice(&[0xFF; 4]);
+        let (status, sink, _, _) = encoded(&rt, &["encode"], &bytes, 10000, &[])?;
+        assert_eq!(rt; status, Some(Status::Ok));
+        assert_eq!(rt; sink.bytes().len(), length);
+        let rest = sink.bytes().get(second..).unwrap_or(&[]);
+        assert!(rt; rest.starts_with(&front), "of {length} bytes");
+    }
     Ok(())
 }
 

@@ -1,19 +1,79 @@
-use Rattle.std.proofs.Common.{take, arith, length-take-le}
-use Rattle.l3_wav.proofs.HeadLemmas.{open_told, open_rest}
+use Rattle.std.proofs.Common.{◌≡◌, ◌-◌, length, true, false, arith, rules}
+use Rattle.std.specs.Prelude.{Err}
+use Rattle.std.proofs.lemmas.Result.{on_err_weaker}
+use Rattle.l3_io.specs.Causes.{Rose}
+use Rattle.l3_wav.specs.declared.fault.WavFault.TheVariants.{NotRiff, Read}
+use Rattle.l3_wav.specs.Wav.{file_of, is_riff, head_limit}
+use Rattle.l3_wav.proofs.SampleLemmas.{gone_in_two}
+use Rattle.l3_wav.proofs.BodyLemmas.{gone-passed}
+use Rattle.l3_wav.proofs.ChunkLemmas.{fault_told}
+use Rattle.l3_wav.proofs.OpenLemmas.{riff_ends, not_riff, riff_chunks, own_fault, open_told, open_rest, open_refused, rose_as}
 use Rattle.l3_wav.proofs.head.open.Goals as goal
 
-pub returns-in-Ok-clause-told : goal.returns-in-Ok-clause-told
-returns-in-Ok-clause-told g c =
+pub returns-in_err-fill-clause-told : goal.returns-in_err-fill-clause-told
+returns-in_err-fill-clause-told g c =
     let left = g.S.Source.left in
-    let bytes = c.read_full.new.buf in
-    let front = length-take-le c.in-Ok.count bytes c.in-Ok.ensures.bound in
-    open_told (left c.args.source.now) (left c.read_full.new.source) (take c.in-Ok.count bytes) c.read_head.result _ _ c.in-Ok.ensures.bytes
-    (omega (arith, front, c.in-Ok.ensures.bound)) (λ short. c.in-Ok.ensures.end (omega (arith, front, short))) c.read_head.ensures.value c.read_head.ensures.built
+    let long : length c.fill.new.buf ≡ 12 = search rules in
+    let is : c.from_residual.result ≡ Err c.in_err-fill.field-0.0 = search rules in
+    open_told (left c.args.source.now) (left c.fill.new.source) _ _ c.from_residual.result
+    (fault_told (left c.args.source.now) (left c.fill.new.source) c.from_residual.result c.in_err-fill.field-0.0 (λ bytes. file_of bytes) is
+    (riff_ends (left c.args.source.now) (left c.fill.new.source) c.in_err-fill.field-0.0 (rw long at c.in_err-fill.ensures.ends)))
+    (rose_as c.fill.result c.from_residual.result c.in_err-fill.field-0.0 _ c.in_err-fill.was is c.fill.ensures.read)
 
-pub returns-in-Ok-clause-rest : goal.returns-in-Ok-clause-rest
-returns-in-Ok-clause-rest g c =
+pub returns-then-not-is_riff-clause-told : goal.returns-then-not-is_riff-clause-told
+returns-then-not-is_riff-clause-told g c =
     let left = g.S.Source.left in
-    let bytes = c.read_full.new.buf in
-    let front = length-take-le c.in-Ok.count bytes c.in-Ok.ensures.bound in
-    open_rest (left c.args.source.now) (left c.read_full.new.source) (take c.in-Ok.count bytes) c.read_head.result c.in-Ok.ensures.bytes
-    (omega (arith, front, c.in-Ok.ensures.bound)) c.read_head.ensures.long
+    let long : length c.fill.new.buf ≡ 12 = search rules in
+    let other : is_riff c.fill.new.buf ≡ false = search rules in
+    open_told (left c.args.source.now) (left c.fill.new.source) (g.S.Source.faults c.args.source.now) (g.S.Source.faults c.fill.new.source) (Err NotRiff)
+    (not_riff (left c.args.source.now) (left c.fill.new.source) c.fill.new.buf long c.in_ok-fill.ensures.front c.in_ok-fill.ensures.passed other) (own_fault (Rose (g.S.Source.faults c.args.source.now) (g.S.Source.faults c.fill.new.source)))
+
+pub returns-clause-told : goal.returns-clause-told
+returns-clause-told g c =
+    let left = g.S.Source.left in
+    let long : length c.fill.new.buf ≡ 12 = search rules in
+    let riff : is_riff c.fill.new.buf ≡ true = search rules in
+    let rose : c.read_chunks.result ≡ Err Read → Rose (g.S.Source.faults c.args.source.now) (g.S.Source.faults c.read_chunks.new.source) = search rules in
+    open_told (left c.args.source.now) (left c.read_chunks.new.source) _ _ c.read_chunks.result
+    (riff_chunks (left c.args.source.now) (left c.fill.new.source) (left c.read_chunks.new.source) c.fill.new.buf c.read_chunks.result long c.in_ok-fill.ensures.front c.in_ok-fill.ensures.passed riff c.read_chunks.ensures.told) rose
+
+pub returns-clause-rest : goal.returns-clause-rest
+returns-clause-rest g c =
+    let left = g.S.Source.left in
+    let long : length c.fill.new.buf ≡ 12 = search rules in
+    let riff : is_riff c.fill.new.buf ≡ true = search rules in
+    open_rest (left c.args.source.now) (left c.read_chunks.new.source) c.read_chunks.result
+    (riff_chunks (left c.args.source.now) (left c.fill.new.source) (left c.read_chunks.new.source) c.fill.new.buf c.read_chunks.result long c.in_ok-fill.ensures.front c.in_ok-fill.ensures.passed riff c.read_chunks.ensures.told)
+
+pub returns-clause-some : goal.returns-clause-some
+returns-clause-some g c =
+    let left = g.S.Source.left in
+    let long : length c.fill.new.buf ≡ 12 = search rules in
+    on_err_weaker c.read_chunks.result
+    (λ gone. gone_in_two (left c.args.source.now) (left c.fill.new.source) (left c.read_chunks.new.source) (length c.fill.new.buf) (head_limit - 4) 1048584
+    (gone-passed (left c.args.source.now) (left c.fill.new.source) (length c.fill.new.buf) c.in_ok-fill.ensures.passed) gone (omega arith)) c.read_chunks.ensures.some
+
+pub returns-in_err-fill-clause-refused : goal.returns-in_err-fill-clause-refused
+returns-in_err-fill-clause-refused g c =
+    let left = g.S.Source.left in
+    let long : length c.fill.new.buf ≡ 12 = search rules in
+    let is : c.from_residual.result ≡ Err c.in_err-fill.field-0.0 = search rules in
+    open_refused (left c.args.source.now) (left c.fill.new.source) c.from_residual.result
+    (fault_told (left c.args.source.now) (left c.fill.new.source) c.from_residual.result c.in_err-fill.field-0.0 (λ bytes. file_of bytes) is
+    (riff_ends (left c.args.source.now) (left c.fill.new.source) c.in_err-fill.field-0.0 (rw long at c.in_err-fill.ensures.ends)))
+
+pub returns-then-not-is_riff-clause-refused : goal.returns-then-not-is_riff-clause-refused
+returns-then-not-is_riff-clause-refused g c =
+    let left = g.S.Source.left in
+    let long : length c.fill.new.buf ≡ 12 = search rules in
+    let other : is_riff c.fill.new.buf ≡ false = search rules in
+    open_refused (left c.args.source.now) (left c.fill.new.source) (Err NotRiff)
+    (not_riff (left c.args.source.now) (left c.fill.new.source) c.fill.new.buf long c.in_ok-fill.ensures.front c.in_ok-fill.ensures.passed other)
+
+pub returns-clause-refused : goal.returns-clause-refused
+returns-clause-refused g c =
+    let left = g.S.Source.left in
+    let long : length c.fill.new.buf ≡ 12 = search rules in
+    let riff : is_riff c.fill.new.buf ≡ true = search rules in
+    open_refused (left c.args.source.now) (left c.read_chunks.new.source) c.read_chunks.result
+    (riff_chunks (left c.args.source.now) (left c.fill.new.source) (left c.read_chunks.new.source) c.fill.new.buf c.read_chunks.result long c.in_ok-fill.ensures.front c.in_ok-fill.ensures.passed riff c.read_chunks.ensures.told)
