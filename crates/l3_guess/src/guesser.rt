@@ -31,6 +31,7 @@ impl Model for Flat {
 }
 
 impl Flat {
+    /// The guesser of this value, in bits.
     pub fn new(value: u32) -> Flat
         ensures { result ≡ value }
     {
@@ -63,6 +64,7 @@ impl Model for Last {
 }
 
 impl Last {
+    /// One that was told nothing yet.
     pub fn new() -> Last
         ensures { result ≡ 0 }
     {
@@ -99,6 +101,7 @@ impl Model for Mean {
 }
 
 impl Mean {
+    /// One that was told nothing yet.
     pub fn new() -> Mean
         ensures { result ≡ [] }
     {

@@ -13,6 +13,7 @@ pub struct Member {
 }
 
 impl Member {
+    /// Its guess for this granule, in bits.
     pub fn guess(&self, number: GranuleNo) -> u32
         ensures { result ≡ guesses self.now.guesser number }
     {
