@@ -63,3 +63,7 @@ SlotsOfGranule = (p : List ℤ) (g i k : ℕ) → i < 32 → k < 36 → slot_in 
 -- a line of 16-bit samples is at most 2^28 in absolute value
 abbrev pub SpectrumIsBounded : Type 0
 SpectrumIsBounded = (p : List ℤ) (g : ℕ) → All (IsWithin (2 ^ 15)) p → All (IsWithin (2 ^ 28)) (spectrum_of_granule p g)
+
+-- the lines of a window's slots are its spectrum
+abbrev pub SpectrumIsComposed : Type 0
+SpectrumIsComposed = (window : List ℤ) → lines_of (slots_of window) ≡ spectrum_of window
