@@ -16,7 +16,7 @@ const PCM_SUBFORMAT: [u8; 16] = *b"\x01\0\0\0\0\0\x10\0\x80\0\0\xAA\0\x38\x9B\x7
 /// Bits of a sample.
 const DEPTH: u16 = 16;
 
-// What a format chunk says.
+/// What a format chunk says.
 #[derive(Clone, Copy)]
 pub struct Format {
     pub channels: Channels,
@@ -31,7 +31,7 @@ fn u16_at(bytes: &[u8], at: usize) -> u16
     u16::from_le_bytes([bytes[at], bytes[at + 1]])
 }
 
-// The number of four bytes at a place.
+/// The number of four bytes at a place.
 pub fn u32_at(bytes: &[u8], at: usize) -> u32
     requires { at + 4 ≤ length bytes.now }
     ensures { result ≡ u32_at bytes.now at }
@@ -78,7 +78,7 @@ fn rate_named(hertz: u32) -> Option<SampleRate>
     }
 }
 
-// What the fields of a format say, which are the first bytes of its chunk's body, 40 at most.
+/// What the fields of a format say, which are the first bytes of its chunk's body, 40 at most.
 pub fn read_format(fields: &[u8]) -> Result<Format, WavFault>
     ensures value { result ≡ format_of fields.now }
     ensures own { result ≢ Err WavFault.Read }

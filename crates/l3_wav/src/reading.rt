@@ -14,7 +14,7 @@ fn empty_block() -> [u8; BLOCK] {
     [0; BLOCK]
 }
 
-// Fills the buffer with the next bytes of a head.
+/// Fills the buffer with the next bytes of a head.
 pub fn fill<S: Source>(source: &mut S, buf: &mut [u8]) -> Result<(), WavFault>
     ensures front { OnOk result (IfSome (S.left source.old) (λ bytes. take (length buf.new) bytes ≡ buf.new)) }
     ensures passed { OnOk result (IfSome (S.left source.old) (λ bytes. HasPassed (length buf.new) bytes (S.left source.new))) }
@@ -30,7 +30,7 @@ pub fn fill<S: Source>(source: &mut S, buf: &mut [u8]) -> Result<(), WavFault>
     }
 }
 
-// Passes over so many bytes of a head.
+/// Passes over so many bytes of a head.
 pub fn skip<S: Source>(source: &mut S, count: usize) -> Result<(), WavFault>
     ensures passed { OnOk result (IfSome (S.left source.old) (λ bytes. HasPassed count bytes (S.left source.new))) }
     ensures ends { IfErr result (λ fault. IfSome (S.left source.old) (λ bytes. EndsWithin count fault bytes (S.left source.new))) }
