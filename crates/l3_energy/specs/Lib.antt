@@ -1,0 +1,3 @@
+pub use Rattle.l3_base.specs.Rates
+pub use Rattle.l3_base.specs.Spectrum
+pub mod Demand
