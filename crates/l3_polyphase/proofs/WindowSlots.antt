@@ -7,7 +7,7 @@ use Rattle.std.specs.Prelude.{All, if◌then◌else◌}
 use Rattle.l3_tables.specs.Lists.{entry, tabulate}
 use Rattle.l3_tables.specs.Sums.{IsWithin}
 use Rattle.l3_tables.specs.Filterbank.{slot_sum, window_slot, turned}
-use Rattle.l3_tables.proofs.ListLemmas.{length-tabulate, get_or-tabulate, tabulate-same}
+use Rattle.l3_tables.proofs.ListLemmas.{length-tabulate, get_or-tabulate}
 use Rattle.l3_tables.proofs.Slots.{AreSamples, slot_sum-same, slot_sum_small}
 use Rattle.l3_polyphase.specs.Samples.{before_newest}
 
@@ -20,11 +20,6 @@ slot_is window samples slots i k low e part =
     ∙ slot_sum-same (before_newest samples) (λ n. entry window (32 * k + 511 - n)) i (λ n lt.
     let place : 32 * k + (511 - n) ≡ 32 * k + 511 - n = omega arith in
     part (511 - n) (omega arith) ∙ ap (entry window) place))
-
--- the same samples, the newest first
-pub slots_backwards : (window samples : List ℤ) → ((n : ℕ) → n < 512 → entry samples (511 - n) ≡ entry window n) → tabulate 32 (slot_sum (before_newest samples)) ≡ tabulate 32 (slot_sum (entry window))
-slots_backwards window samples same =
-    tabulate-same 32 (slot_sum (before_newest samples)) (slot_sum (entry window)) (λ i _. slot_sum-same (before_newest samples) (entry window) i same)
 
 pub tabulated_small : (newest : ℕ → ℤ) → AreSamples newest → All (IsWithin 44598016) (tabulate 32 (slot_sum newest))
 tabulated_small newest samples =

@@ -5,7 +5,7 @@ ghost use Rattle.l3_tables.specs.Sums.{IsWithin};
 ghost use Rattle.l3_tables.specs.Filterbank.{slot_sum, slots_of, turned};
 ghost use Rattle.l3_polyphase.specs.Samples.{HasShape};
 
-use crate::columns::subbands;
+use crate::columns::{subbands, subbands_newest_first};
 use l3_base::Slots36;
 
 /// The slots of the 32 subbands of 512 samples, the newest first.
@@ -15,9 +15,7 @@ pub fn slot(window: &[i16; 512], out: &mut [i32; 32])
     ensures value { out.new ≡ tabulate 32 (slot_sum (entry window.now)) }
     ensures bound { All (IsWithin 44598016) out.new }
 {
-    let mut samples = *window;
-    samples.reverse();
-    subbands(&samples, out);
+    subbands_newest_first(window, out);
 }
 
 /// The 36 slots of the 32 subbands of a granule's window, in order of time.

@@ -1,0 +1,14 @@
+use Rattle.std.proofs.lemmas.List.Elements.{All-same}
+use Rattle.l3_tables.specs.Lists.{entry}
+use Rattle.l3_tables.specs.Sums.{IsWithin}
+use Rattle.l3_polyphase.proofs.ColumnSlots.{slots_of_columns-are}
+use Rattle.l3_polyphase.proofs.WindowSlots.{tabulated_small}
+use Rattle.l3_polyphase.proofs.columns.subbands_newest_first.Goals as goal
+
+pub returns-clause-value : goal.returns-clause-value
+returns-clause-value c = slots_of_columns-are (entry c.args.window.now) c.columns_newest_first-sums.result c.slots_of_columns.new.out c.slots_of_columns.ensures.long c.columns_newest_first-sums.ensures.value c.slots_of_columns.ensures.value
+
+pub returns-clause-bound : goal.returns-clause-bound
+returns-clause-bound c =
+    All-same (IsWithin 44598016) _ _ (slots_of_columns-are (entry c.args.window.now) c.columns_newest_first-sums.result c.slots_of_columns.new.out c.slots_of_columns.ensures.long c.columns_newest_first-sums.ensures.value c.slots_of_columns.ensures.value)
+    (tabulated_small (entry c.args.window.now) (record { small = c.columns_newest_first-sums.ensures.range }))
