@@ -1,0 +1,20 @@
+//! Analysed granules, offered by one desk -> shared out to workers, each with a seat, and taken back in order.
+//!
+//! Before: `l3_core`, the board as a machine in one thread. After: `l3_lanes`, the same trait without locks, and the
+//! committer, which has the desk. All of it is this project's own.
+#![tactic(auto)]
+
+mod board;
+mod desk;
+mod entry;
+mod lock;
+
+pub use crate::board::Board;
+pub use crate::desk::DeskRecord;
+pub use crate::entry::Entry;
+pub use crate::lock::{LockBoard, LockDesk, LockSeat};
+
+#[cfg(test)]
+mod running;
+#[cfg(test)]
+mod tests;
