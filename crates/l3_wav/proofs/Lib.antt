@@ -2,4 +2,5 @@ pub mod BodyLemmas
 pub mod ChunkLemmas
 pub mod HeadLemmas
 pub mod OpenLemmas
+pub mod PcmLemmas
 pub mod SampleLemmas

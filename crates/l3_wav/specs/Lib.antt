@@ -1,4 +1,5 @@
 pub mod Laws
+pub mod Pcm
 pub mod Samples
 pub mod Steps
 pub mod Wav

@@ -7,12 +7,14 @@ mod fault;
 mod fields;
 mod head;
 mod laws;
+mod pcm;
 mod reading;
 mod samples;
 
 pub use fault::WavFault;
 pub use head::{WavHead, open};
 pub use laws::chunks_in_a_head;
+pub use pcm::{Pcm, PcmFault, read_all};
 pub use samples::Samples;
 
 #[cfg(test)]

@@ -1,0 +1,53 @@
+use Rattle.std.proofs.Common.{rules, ◌≡◌, ◌≤◌, ◌*◌, ◌<◌, ◌^◌, ◌++◌, length, take, arith}
+use Rattle.std.specs.Prelude.{ℤ, List}
+use Rattle.l3_wav.specs.Pcm.{left_of, right_of}
+use Rattle.l3_wav.specs.Samples.{unread}
+use Rattle.l3_wav.proofs.PcmLemmas.{GivesAll, turn_state, turn_more, turn_last}
+use Rattle.l3_wav.proofs.pcm.read_all.Goals as goal
+
+-- what was read before, and the turn's block
+pub loop-there-preserved : goal.loop-there-preserved
+loop-there-preserved g c =
+    let left = g.S.Source.left in
+    let first = unread c.args.head.now.channels c.args.head.now.data_bytes in
+    let inv = c.loop-there.invariant in
+    let read = c.in-Ok.ensures in
+    let lefts : c.add_samples.new.left.items ≡ c.loop-there.left.items ++ left_of c.args.head.now.channels (take c.in-Ok.there c.next.new.out) = search rules in
+    let rights : c.add_samples.new.right.items ≡ c.loop-there.right.items ++ right_of c.args.head.now.channels (take c.in-Ok.there c.next.new.out) = search rules in
+    record {
+      state = turn_state c.args.head.now.channels first c.loop-there.samples c.next.new.self c.in-Ok.there c.next.new.out c.loop-there.left.items c.loop-there.right.items _ _
+          (left c.args.source.now) (left c.loop-there.source) (left c.next.new.source) inv.state inv.content read.content read.state read.bound read.declared read.samples lefts rights;
+      later = search rules;
+      content = turn_more c.args.head.now.channels first c.loop-there.samples c.next.new.self c.in-Ok.there c.next.new.out c.loop-there.left.items c.loop-there.right.items _ _
+          (left c.args.source.now) (left c.loop-there.source) (left c.next.new.source) inv.state inv.content read.content read.state read.bound read.declared read.samples lefts rights;
+    }
+
+-- the last turn
+gives : (g : _) (c : goal.Then-there-lt2048 g) → GivesAll c.args.head.now.channels (unread c.args.head.now.channels c.args.head.now.data_bytes)
+    (g.S.Source.left c.args.source.now) (g.S.Source.left c.next.new.source) c.add_samples.new.left.items c.add_samples.new.right.items
+gives g c =
+    let left = g.S.Source.left in
+    let first = unread c.args.head.now.channels c.args.head.now.data_bytes in
+    let inv = c.loop-there.invariant in
+    let read = c.in-Ok.ensures in
+    let lefts : c.add_samples.new.left.items ≡ c.loop-there.left.items ++ left_of c.args.head.now.channels (take c.in-Ok.there c.next.new.out) = search rules in
+    let rights : c.add_samples.new.right.items ≡ c.loop-there.right.items ++ right_of c.args.head.now.channels (take c.in-Ok.there c.next.new.out) = search rules in
+    turn_last c.args.head.now.channels first c.loop-there.samples c.next.new.self c.in-Ok.there c.next.new.out c.loop-there.left.items c.loop-there.right.items _ _
+    (left c.args.source.now) (left c.loop-there.source) (left c.next.new.source) inv.state inv.content read.content read.state read.bound read.declared read.samples lefts rights (search rules)
+
+pub returns-then-there-lt2048-clause-left : goal.returns-then-there-lt2048-clause-left
+returns-then-there-lt2048-clause-left g c = (gives g c).lefts_are
+
+pub returns-then-there-lt2048-clause-right : goal.returns-then-there-lt2048-clause-right
+returns-then-there-lt2048-clause-right g c = (gives g c).rights_are
+
+pub returns-then-there-lt2048-clause-rest : goal.returns-then-there-lt2048-clause-rest
+returns-then-there-lt2048-clause-rest g c = (gives g c).rest
+
+pub returns-then-there-lt2048-clause-few : goal.returns-then-there-lt2048-clause-few
+returns-then-there-lt2048-clause-few g c =
+    let fits : c.args.head.now.data_bytes < 2 ^ 32 = search rules in
+    omega (arith, fits, (gives g c).few)
+
+pub returns-then-there-lt2048-clause-shape : goal.returns-then-there-lt2048-clause-shape
+returns-then-there-lt2048-clause-shape g c = (gives g c).shape

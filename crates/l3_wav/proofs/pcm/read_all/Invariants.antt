@@ -1,0 +1,15 @@
+use Rattle.std.proofs.Common.{◌≡◌, ◌≤◌, ℕ, false}
+use Rattle.l3_base.specs.declared.rate.Channels.{Channels}
+use Rattle.l3_wav.specs.Samples.{unread}
+use Rattle.l3_wav.proofs.PcmLemmas.{AreChannels}
+use Rattle.l3_wav.proofs.pcm.read_all.Given as goal
+
+abbrev pub invariant-loop-there : goal.invariant-loop-there
+invariant-loop-there g l = record {
+  state : l.samples ≡ unread l.head.channels l.samples.remaining;
+  later : g.S.Source.faults l.fn.source ≤ g.S.Source.faults l.source;
+  content : AreChannels l.head.channels (unread l.head.channels l.head.data_bytes) l.samples (g.S.Source.left l.fn.source) (g.S.Source.left l.source) l.left.items l.right.items;
+}
+
+abbrev pub decreases-loop-there : goal.decreases-loop-there
+decreases-loop-there g l = l.samples.remaining
