@@ -1,0 +1,10 @@
+pub mod MoveLemmas
+pub mod ClaimLemmas
+pub mod DeskLemmas
+pub mod DepositLemmas
+pub mod EdgeLemmas
+pub mod NoteLemmas
+pub mod SearchLemmas
+pub mod ViewLemmas
+pub mod DeskViewLemmas
+pub mod RuleLemmas

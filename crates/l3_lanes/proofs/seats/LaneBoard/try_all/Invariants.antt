@@ -1,0 +1,12 @@
+use Rattle.std.proofs.Common.{◌≡◌, ℕ, ◌<◌, ◌≤◌, None}
+use Rattle.l3_lanes.specs.Views.{words_at}
+use Rattle.l3_lanes.specs.Calls.{IsSeatOf, WasLost}
+use Rattle.l3_lanes.proofs.seats.LaneBoard.try_all.Given as goal
+
+abbrev pub invariant-loop-cell : goal.invariant-loop-cell
+invariant-loop-cell g l = record {
+  seat : IsSeatOf l.self l.seat;
+  free : l.seat.claim ≡ None;
+  lost : (c : ℕ) → c < l.cell → WasLost c l.fn.seat.token.me.0 l.seat.token.me.0;
+  others : (k : ℕ) → l.cell ≤ k → words_at l.seat.token.me.0 k ≡ words_at l.fn.seat.token.me.0 k;
+}

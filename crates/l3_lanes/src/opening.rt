@@ -1,0 +1,87 @@
+// How a board begins.
+ghost use Rattle.std.specs.Prelude.{◌≡◌, ◌+◌, ◌<◌, ◌≤◌, None, Some, false, length, vec_len, IfOk, All, map, replicate};
+ghost use Rattle.l3_board.specs.Desk.{fresh_desk};
+ghost use Rattle.l3_lanes.specs.Calls.{IsDeskOf, IsSeat, IsSeatOf, claimed};
+
+use crate::plays::{Hire, Lanes, Row, Token};
+use crate::seats::{LaneBoard, LaneDesk, LaneSeat};
+use l3_board::DeskRecord;
+use l3_core::Numbered;
+use std::alloc::{AllocError, Global};
+
+impl<T: Numbered> LaneBoard<T> {
+    /// A board of as many empty cells as there are blanks, its desk, and a seat for each worker.
+    pub fn new(
+        alloc: Global,
+        workers: u8,
+        blanks: Vec<T>,
+    ) -> Result<(LaneBoard<T>, LaneDesk<T>, Vec<LaneSeat<T>>), AllocError>
+        requires workers { (0 < workers) × (workers ≤ 16) }
+        requires some { 0 < vec_len blanks }
+        requires limit { vec_len blanks ≤ 64 }
+        ensures cells { IfOk result (λ made. made.0.cells ≡ vec_len blanks) }
+        ensures desk { IfOk result (λ made. IsDeskOf made.0 made.1) }
+        ensures opening { IfOk result (λ made. (made.1.granules.items ≡ replicate (vec_len blanks) None) × (made.1.shut ≡ false)) }
+        ensures kept { IfOk result (λ made. made.1.kept ≡ fresh_desk (vec_len blanks)) }
+        ensures seats { IfOk result (λ made. vec_len made.2 ≡ workers) }
+        ensures made { IfOk result (λ made. All (λ seat. IsSeatOf made.0 seat × (claimed seat ≡ None)) made.2.items) }
+    {
+        let cells = blanks.len() as u8;
+        let count = usize::from(cells);
+        let kept = DeskRecord::new(alloc, cells)?;
+        let granules = nones(alloc, count)?;
+        let words = zeros(alloc, count + 2)?;
+        let slots = filled(alloc, blanks)?;
+        let Ok((lanes, mut token)) = Lanes::<T>::new(alloc, words.as_slice(), slots, &count) else {
+            return Err(AllocError);
+        };
+        let seats = hired(alloc, &lanes.shared, &mut token, workers)?;
+        let desk = LaneDesk {
+            token,
+            granules,
+            shut: false,
+            kept,
+        };
+        Ok((LaneBoard { lanes, cells }, desk, seats))
+    }
+}
+
+fn zeros(alloc: Global, count: usize) -> Result<Vec<u64>, AllocError>
+    ensures { IfOk result (λ words. words.items ≡ replicate count 0) }
+{
+    vec![in alloc; 0u64; count]
+}
+
+fn nones(alloc: Global, count: usize) -> Result<Vec<Option<u64>>, AllocError>
+    ensures { IfOk result (λ granules. granules.items ≡ replicate count None) }
+{
+    vec![in alloc; None; count]
+}
+
+fn filled<T: Numbered>(alloc: Global, blanks: Vec<T>) -> Result<Vec<Option<T>>, AllocError>
+    ensures { IfOk result (λ slots. slots.items ≡ map Some blanks.items) }
+{
+    blanks.into_iter().map(|blank| Some(blank)).collect(alloc)
+}
+
+// A seat for each worker, split from the desk's.
+fn hired<T: Numbered>(
+    alloc: Global,
+    row: &Row<T>,
+    token: &mut Token<T>,
+    workers: u8,
+) -> Result<Vec<LaneSeat<T>>, AllocError>
+    requires table { token.old.table_id ≡ row.now.table_id }
+    requires words { row.now.table_id.words ≡ row.now.table_id.slots + 2 }
+    requires places { length token.old.me.0.notes ≡ row.now.table_id.slots + 1 }
+    ensures same { (token.new.table_id ≡ token.old.table_id) × (token.new.id ≡ token.old.id) × (token.new.me ≡ token.old.me) }
+    ensures seats { IfOk result (λ seats. vec_len seats ≡ workers) }
+    ensures made { IfOk result (λ seats. All (λ seat. (seat.token.table_id ≡ row.now.table_id) × IsSeat row.now.table_id.slots seat.token.me seat.claim × (seat.claim ≡ None)) seats.items) }
+{
+    let mut seats = Vec::new(alloc);
+    for _ in 0..workers {
+        let token = row.split_seat::<Hire>(token);
+        seats.push(LaneSeat { token, claim: None })?;
+    }
+    Ok(seats)
+}

@@ -1,0 +1,60 @@
+// What a worker's seat does with one cell.
+ghost use Rattle.std.specs.Prelude.{◌≡◌, ◌≢◌, ℕ, Option, ◌+◌, ◌%◌, ◌^◌, ◌<◌, [], ◌∷◌, None, Some, true, false, length, IfSome, IfNone};
+ghost use Rattle.l3_core.specs.declared.event.Deposit.TheVariants.{Stray};
+ghost use Rattle.l3_lanes.specs.Words.{offered_word, claimed_word};
+ghost use Rattle.l3_lanes.specs.Views.{Notes};
+ghost use Rattle.l3_lanes.specs.Calls.{DepositNotes};
+
+use crate::plays::{Row, Token};
+use crate::worker_steps::{claim, deposit, free};
+use l3_core::{Deposit, Numbered};
+
+// Claims the granule that the cell's word was read to offer.
+pub(crate) fn claim_offered<T: Numbered>(
+    row: &Row<T>,
+    token: &mut Token<T>,
+    cell: usize,
+    number: u64,
+) -> Option<T>
+    requires fits { (token.old.table_id ≡ row.now.table_id) × (row.now.table_id.words ≡ row.now.table_id.slots + 2) }
+    requires cell { cell < row.now.table_id.slots }
+    requires number { number < 2 ^ 61 }
+    requires seat { (token.old.me.0.desk ≡ false) × (token.old.me.0.late ≡ false) × (token.old.me.0.claim ≡ None) × (token.old.me.1 ≡ []) }
+    requires places { length token.old.me.0.notes ≡ row.now.table_id.slots + 1 }
+    ensures same { (token.new.table_id ≡ token.old.table_id) × (token.new.id ≡ token.old.id) }
+    ensures worker { (token.new.me.0.desk ≡ false) × (token.new.me.0.late ≡ false) }
+    ensures job { IfSome result (λ x. (T.number_of x ≡ number) × (number % row.now.table_id.slots ≡ cell) × (token.new.me.0.claim ≡ Some (cell, number)) × ((y : Option T) × (token.new.me.1 ≡ (cell, y) ∷ []))) }
+    ensures nothing { IfNone result ((token.new.me.0.claim ≡ None) × (token.new.me.1 ≡ [])) }
+    ensures claimed { IfSome result (λ _. Notes cell (claimed_word number ∷ []) token.old.me.0 token.new.me.0) }
+    ensures lost { IfNone result ((n : ℕ) × (n ≢ offered_word number) × Notes cell (n ∷ []) token.old.me.0 token.new.me.0) }
+{
+    if claim(row, token, cell, number) != 8 * number + 1 {
+        return None;
+    }
+    row.exchange(token, cell, None)
+}
+
+// Puts the item into the slot of the claim, and ends the claim.
+pub(crate) fn hand_in<T: Numbered>(
+    row: &Row<T>,
+    token: &mut Token<T>,
+    cell: usize,
+    number: u64,
+    item: T,
+) -> Deposit<T>
+    requires fits { (token.old.table_id ≡ row.now.table_id) × (row.now.table_id.words ≡ row.now.table_id.slots + 2) }
+    requires cell { cell < row.now.table_id.slots }
+    requires number { (number < 2 ^ 61) × (number ≡ T.number_of item) }
+    requires seat { (token.old.me.0.desk ≡ false) × (token.old.me.0.late ≡ false) × (token.old.me.0.claim ≡ Some (cell, number)) × ((y : Option T) × (token.old.me.1 ≡ (cell, y) ∷ [])) }
+    requires places { length token.old.me.0.notes ≡ row.now.table_id.slots + 1 }
+    ensures same { (token.new.table_id ≡ token.old.table_id) × (token.new.id ≡ token.old.id) }
+    ensures seat { (token.new.me.0.desk ≡ false) × (token.new.me.0.late ≡ false) × (token.new.me.0.claim ≡ None) × (token.new.me.1 ≡ []) }
+    ensures notes { (words : _) × DepositNotes number result words × Notes cell words token.old.me.0 token.new.me.0 }
+{
+    let _old = row.exchange(token, cell, Some(item));
+    if deposit(row, token, cell, number) == 8 * number + 2 {
+        return Deposit::Kept;
+    }
+    free(row, token, cell, number);
+    Deposit::Late
+}
