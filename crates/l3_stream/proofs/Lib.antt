@@ -1,0 +1,17 @@
+pub mod Fields
+pub mod Packing
+pub mod Header
+pub mod Side
+pub mod Rules
+pub mod Tape
+pub mod Lines
+pub mod Shapes
+pub mod Steps
+pub mod LineReading
+pub mod UnitReading
+pub mod FrameReading
+pub mod WholeFrame
+pub mod FramesReading
+pub mod StreamReading
+pub mod Readings
+pub mod Locality

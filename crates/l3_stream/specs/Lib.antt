@@ -1,0 +1,14 @@
+pub mod Units
+pub mod Frames
+pub mod Fields
+pub mod Header
+pub mod Side
+pub mod SideReading
+pub mod Tape
+pub mod Laws
+pub mod Coded
+pub mod Faults
+pub mod UnitReading
+pub mod Deviation
+pub mod StreamLaws
+pub mod Cases

@@ -1,0 +1,125 @@
+//! Whether the tables hold a unit's lines, and how many bits their codes have then.
+
+ghost use Rattle.std.specs.Prelude.{◌≡◌, ◌≤◌, ◌+◌, ◌*◌, ◌↔◌, IsTrue, IfSome, IfNone, length, nat_lt, if◌then◌else◌};
+ghost use Rattle.l3_base.specs.Rates.{hertz_index_of};
+ghost use Rattle.l3_huff.specs.Codes.{IsQuad, pair_code_of, quad_code_of};
+ghost use Rattle.l3_huff.specs.Laws.{HoldsPair};
+ghost use Rattle.l3_stream.specs.Units.{HasFields, PairsHold, QuadsHold, edge, pairs_code, quads_code, table_at};
+
+use crate::unit::Unit;
+use l3_base::Settings;
+use l3_huff::{QuadTable, holds, pair_bits, quad_bits};
+
+/// The bits of a unit's pairs, or nothing where a table does not hold its pair. `lines` are those of the pairs.
+pub(crate) fn bits_of_pairs(settings: &Settings, unit: &Unit, lines: &[i16]) -> Option<u32>
+    requires fields { HasFields unit.now }
+    requires pairs { length lines.now ≡ 2 * unit.now.big }
+    ensures value { IfSome result (λ bits. bits ≡ length (pairs_code (table_at settings.now unit.now) 0 lines.now)) }
+    ensures held { IfSome result (λ _. PairsHold (table_at settings.now unit.now) 0 lines.now) }
+    ensures limit { IfSome result (λ bits. bits ≤ 11520) }
+    ensures none { IfNone result (PairsHold (table_at settings.now unit.now) 0 lines.now → ⊥) }
+{
+    let mut bits = 0u32;
+    for k in 0..usize::from(unit.big) {
+        let table = table_of(settings, unit, 2 * k);
+        match bits_of_pair(table, lines[2 * k], lines[2 * k + 1]) {
+            None => return None,
+            Some(more) => bits += more,
+        }
+    }
+    Some(bits)
+}
+
+/// The bits of quadruples, or nothing where one holds more than 1. `lines` are those of the quadruples.
+pub(crate) fn bits_of_quads(table: QuadTable, count: u16, lines: &[i16]) -> Option<u32>
+    requires whole { length lines.now ≡ 4 * count }
+    requires places { 4 * count ≤ 576 }
+    ensures value { IfSome result (λ bits. bits ≡ length (quads_code table lines.now)) }
+    ensures held { IfSome result (λ _. QuadsHold lines.now) }
+    ensures limit { IfSome result (λ bits. bits ≤ 1440) }
+    ensures none { IfNone result (QuadsHold lines.now → ⊥) }
+{
+    let mut bits = 0u32;
+    for k in 0..usize::from(count) {
+        let at = 4 * k;
+        match bits_of_quad(
+            table,
+            [lines[at], lines[at + 1], lines[at + 2], lines[at + 3]],
+        ) {
+            None => return None,
+            Some(more) => bits += more,
+        }
+    }
+    Some(bits)
+}
+
+/// `table_select` of the pair that begins at a line.
+fn table_of(settings: &Settings, unit: &Unit, line: usize) -> u8
+    requires { HasFields unit.now }
+    ensures { result ≡ table_at settings.now unit.now line }
+{
+    let band = usize::from(unit.region0) + 1;
+    let first = first_line(settings, band);
+    let second = first_line(settings, band + usize::from(unit.region1) + 1);
+    unit.tables[region_of(line, first, second)]
+}
+
+/// The region of a line, where the regions 1 and 2 begin at these lines.
+fn region_of(line: usize, first: usize, second: usize) -> usize
+    ensures value { result ≡ (if nat_lt line first then 0 else if nat_lt line second then 1 else 2) }
+    ensures within { result ≤ 2 }
+{
+    if line < first {
+        0
+    } else if line < second {
+        1
+    } else {
+        2
+    }
+}
+
+/// The first line of a scale factor band.
+fn first_line(settings: &Settings, band: usize) -> usize
+    requires { band ≤ 22 }
+    ensures { result ≡ edge settings.now band }
+{
+    usize::from(l3_tables::edge(settings.sample_rate.index(), band))
+}
+
+/// The bits of a pair's code, or nothing where the table does not hold it.
+fn bits_of_pair(table: u8, x: i16, y: i16) -> Option<u32>
+    ensures value { IfSome result (λ bits. bits ≡ length (pair_code_of table x y)) }
+    ensures held { IfSome result (λ _. HoldsPair table x y) }
+    ensures limit { IfSome result (λ bits. bits ≤ 40) }
+    ensures none { IfNone result (HoldsPair table x y → ⊥) }
+{
+    let x = x.unsigned_abs();
+    let y = y.unsigned_abs();
+    if holds(table, x) && holds(table, y) {
+        Some(pair_bits(table, x, y))
+    } else {
+        None
+    }
+}
+
+/// The bits of a quadruple's code, or nothing where it holds more than 1.
+fn bits_of_quad(table: QuadTable, quad: [i16; 4]) -> Option<u32>
+    ensures value { IfSome result (λ bits. bits ≡ length (quad_code_of table quad)) }
+    ensures held { IfSome result (λ _. IsQuad quad) }
+    ensures limit { IfSome result (λ bits. bits ≤ 10) }
+    ensures none { IfNone result (IsQuad quad → ⊥) }
+{
+    if is_quad(&quad) {
+        Some(quad_bits(table, quad))
+    } else {
+        None
+    }
+}
+
+/// Whether four values are at most 1.
+fn is_quad(quad: &[i16]) -> bool
+    requires { length quad.now ≡ 4 }
+    ensures { IsTrue result ↔ IsQuad quad.now }
+{
+    quad.iter().all(|x| x.unsigned_abs() <= 1)
+}

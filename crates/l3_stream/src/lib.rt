@@ -1,0 +1,25 @@
+//! The words of a stream: units, frames, side information, the joined main data, and the bytes that frames spell.
+//!
+//! A frame of quantised lines -> whether it can be coded. What its bits are, and how they are read again, is this crate's definitions.
+//! The syntax is that of Layer III (ISO/IEC 11172-3, clause 2.4), as far as the profile has it. The codes of the units of all frames
+//! stand on one row of bits, the tape: the main data of all frames joined, headers and side information left out.
+//! Before: the count that chose a unit's fields, and the code tables. After: the frame writer and the stream reader, which cite these words.
+#![tactic(auto)]
+
+mod coded;
+mod fault;
+mod held;
+mod laws;
+mod unit;
+
+pub use coded::is_coded;
+pub use fault::StreamFault;
+pub use l3_huff::QuadTable;
+pub use laws::{
+    code_lengths, deviation_is_exact, one_reading, reading_is_local, reading_rules,
+    tape_by_positions, worked_readings,
+};
+pub use unit::{ChosenFrame, Unit};
+
+#[cfg(test)]
+mod tests;
