@@ -1,0 +1,142 @@
+-- Steps of the words for lanes.
+use Rattle.std.proofs.Common.{◌≡◌, ℕ, zero, suc, ◌+◌, ◌-◌, ◌*◌, ◌<◌, ◌≤◌, List, [], get_or, cond, leb, true, refl, ap, ◌∙◌, arith, inl, inr, add-one}
+use Rattle.std.specs.Prelude.{ℤ, min, max}
+use Rattle.std.proofs.lemmas.Bool.{cases_lt, le-leb}
+use Rattle.l3_tables.specs.Lists.{entry}
+use Rattle.l3_region.specs.Lanes.{AreFloors, AreSums, CostsGrow, lane_class, mask_at, least_below, class_from, lane_cost, lane_sum, range_cost, row_at, place_of}
+use Rattle.l3_region.proofs.Tables.{mask_is, row_small, row_zero}
+
+-- ---- the least
+
+pub least_below-none : (f : ℕ → ℕ) → least_below f 0 ≡ 65535
+unfolding least_below
+least_below-none f = refl
+
+pub least_below-more : (f : ℕ → ℕ) (n : ℕ) → least_below f (n + 1) ≡ min (least_below f n) (f n)
+unfolding least_below
+least_below-more f n = rw add-one
+
+pub least_below-le : (f : ℕ → ℕ) (n : ℕ) → least_below f n ≤ 65535
+unfolding least_below
+least_below-le f zero = omega arith
+least_below-le f (suc n) = omega (arith, least_below-le f n)
+
+pub least_below-lower : (f : ℕ → ℕ) (n j : ℕ) → j < n → least_below f n ≤ f j
+unfolding least_below
+least_below-lower f zero j lt = absurd (omega arith)
+least_below-lower f (suc n) j lt = elim (cases_lt j n) [
+  | inl before ↦ omega (arith, least_below-lower f n j before)
+  | inr here ↦ (let same : n ≡ j = omega arith in let e : f n ≡ f j = ap f same in omega arith)
+]
+
+above : (f : ℕ → ℕ) (n b : ℕ) → b ≤ 65535 → ((j : ℕ) → j < n → b ≤ f j) → b ≤ least_below f n
+unfolding least_below
+above f zero b small le = omega arith
+above f (suc n) b small le = omega (arith, above f n b small (λ j lt. le j (omega arith)), le n (omega arith))
+
+-- the least is that of a place which is no more than any
+pub least_below-is : (f : ℕ → ℕ) (n r : ℕ) → r < n → f r ≤ 65535 → ((j : ℕ) → j < n → f r ≤ f j) → least_below f n ≡ f r
+least_below-is f n r lt small le = omega (arith, least_below-lower f n r lt, above f n (f r) small le)
+
+-- ---- classes
+
+pub class_from-none : (classes : List ℕ) (i : ℕ) → class_from classes i 0 ≡ 0
+unfolding class_from
+class_from-none classes i = refl
+
+pub class_from-more : (classes : List ℕ) (i n : ℕ) → class_from classes i (n + 1) ≡ max (class_from classes i n) (get_or classes (i + n) 0)
+unfolding class_from
+class_from-more classes i n = rw add-one
+
+pub class_from-front : (classes : List ℕ) (i n : ℕ) → class_from classes i (n + 1) ≡ max (class_from classes (i + 1) n) (get_or classes i 0)
+class_from-front classes i zero =
+    let same : i + 0 ≡ i = omega arith in
+    let e = ap (λ k. get_or classes k 0) same in
+    omega (arith, e, class_from-more classes i 0, class_from-none classes i, class_from-none classes (i + 1))
+class_from-front classes i (suc n) =
+    let one : suc n ≡ n + 1 = omega arith in
+    let before = class_from-front classes i n in
+    let left = class_from-more classes i (n + 1) in
+    let right = class_from-more classes (i + 1) n in
+    let same : i + (n + 1) ≡ i + 1 + n = omega arith in
+    let e : get_or classes (i + (n + 1)) 0 ≡ get_or classes (i + 1 + n) 0 = ap (λ k. get_or classes k 0) same in
+    rw one (omega (arith, before, left, right, e))
+
+pub class_from-lt : (classes : List ℕ) (i n : ℕ) → ((b : ℕ) → b < i + n → get_or classes b 0 < 14) → class_from classes i n < 14
+class_from-lt classes i zero small = omega (arith, class_from-none classes i)
+class_from-lt classes i (suc n) small =
+    let one : suc n ≡ n + 1 = omega arith in
+    rw one (omega (arith, class_from-more classes i n, class_from-lt classes i n (λ b lt. small b (omega arith)), small (i + n) (omega arith)))
+
+-- ---- sums
+
+pub lane_sum-none : (q : List ℤ) (k : ℕ) → lane_sum q k 0 ≡ 0
+unfolding lane_sum
+lane_sum-none q k = refl
+
+pub lane_sum-more : (q : List ℤ) (k n : ℕ) → lane_sum q k (n + 1) ≡ lane_sum q k n + row_at (place_of (entry q (2 * n)) (entry q (2 * n + 1))) k
+unfolding lane_sum
+lane_sum-more q k n = rw add-one
+
+pub place_small : (x y : ℤ) → place_of x y < 256
+unfolding place_of
+place_small x y = omega arith
+
+-- a pair takes at most 32 bits
+pub lane_sum-le : (q : List ℤ) (k n : ℕ) → k < 24 → lane_sum q k n ≤ 32 * n
+lane_sum-le q k zero lt = omega (arith, lane_sum-none q k)
+lane_sum-le q k (suc n) lt =
+    let one : suc n ≡ n + 1 = omega arith in
+    let x = entry q (2 * n) in
+    let y = entry q (2 * n + 1) in
+    rw one (omega (arith, lane_sum-more q k n, lane_sum-le q k n lt, row_small (place_of x y) k (place_small x y) lt))
+
+pub lane_sum-zero : (q : List ℤ) (n : ℕ) → lane_sum q 0 n ≡ 0
+lane_sum-zero q zero = lane_sum-none q 0
+lane_sum-zero q (suc n) =
+    let one : suc n ≡ n + 1 = omega arith in
+    let x = entry q (2 * n) in
+    let y = entry q (2 * n + 1) in
+    rw one (omega (arith, lane_sum-more q 0 n, lane_sum-zero q n, row_zero (place_of x y) (place_small x y)))
+
+rises-by : (q : List ℤ) (k i n : ℕ) → lane_sum q k i ≤ lane_sum q k (i + n)
+rises-by q k i zero = let same : i + 0 ≡ i = omega arith in rw same (omega arith)
+rises-by q k i (suc n) =
+    let same : i + suc n ≡ i + n + 1 = omega arith in
+    rw same (omega (arith, rises-by q k i n, lane_sum-more q k (i + n)))
+
+pub lane_sum-rises : (q : List ℤ) (k i j : ℕ) → i ≤ j → lane_sum q k i ≤ lane_sum q k j
+lane_sum-rises q k i j le =
+    let same : i + (j - i) ≡ j = omega arith in
+    let grows = rises-by q k i (j - i) in
+    rw same at grows
+
+-- ---- floors
+
+pub range_cost-small : (rows : List (List ℕ)) (classes : List ℕ) (i n : ℕ) → range_cost rows classes i n ≤ 65535
+unfolding range_cost
+range_cost-small rows classes i n = least_below-le (lane_cost (get_or rows i []) (get_or rows (i + n) []) (class_from classes i n)) 24
+
+-- zeros cost nothing
+pub range_cost-zero : (rows : List (List ℕ)) (classes : List ℕ) (i n : ℕ) → AreSums rows classes → i + n ≤ 22 → class_from classes i n ≡ 0 → range_cost rows classes i n ≡ 0
+unfolding range_cost
+range_cost-zero rows classes i n is le none =
+    let class = class_from classes i n in
+    let f = lane_cost (get_or rows i []) (get_or rows (i + n) []) class in
+    let low : leb class (lane_class 0) ≡ true = le-leb class (lane_class 0) (omega (arith, none)) in
+    let mask : mask_at class 0 ≡ 0 = mask_is class 0 (omega (arith, none)) (omega arith) ∙ ap (λ t. cond t 0 16384) low in
+    omega (arith, least_below-lower f 24 0 (omega arith), mask, is.zero_bits (i + n) le)
+
+-- each floor is the one before and what its band costs
+pub floors-are : (rows : List (List ℕ)) (classes floors : List ℕ) → CostsGrow rows classes →
+    ((e : ℕ) → e < 22 → get_or floors (e + 1) 0 ≡ get_or floors e 0 + range_cost rows classes e 1) → AreFloors rows classes floors
+floors-are rows classes floors grow steps i zero le =
+    let same : i + 0 ≡ i = omega arith in
+    rw same (omega arith, omega arith)
+floors-are rows classes floors grow steps i (suc n) le =
+    let more : i + suc n ≡ i + n + 1 = omega arith in
+    let one : suc n ≡ n + 1 = omega arith in
+    let before = floors-are rows classes floors grow steps i n (omega arith) in
+    let step = steps (i + n) (omega arith) in
+    let apart = grow i n (omega arith) in
+    rw (more, one) (omega (arith, before.0, step), omega (arith, before.1, step, apart))

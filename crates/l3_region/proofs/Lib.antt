@@ -1,0 +1,14 @@
+pub mod Tables
+pub mod Cells
+pub mod Firsts
+pub mod LaneLemmas
+pub mod Edges
+pub mod AllPass
+pub mod Slices
+pub mod Pairs
+pub mod SplitLemmas
+pub mod QuadCells
+pub mod Ranges
+pub mod Chosen
+pub mod Composed
+pub mod Fewest

@@ -1,0 +1,95 @@
+-- The tables of lanes, by tests that compute.
+use Rattle.std.proofs.Common.{◌≡◌, ℕ, zero, suc, ◌+◌, ◌-◌, ◌<◌, ◌≤◌, true, [], length, get_or, cond, eqb, ltb, leb, refl, sym, ◌∙◌, arith, inl, inr, ◌⊎◌}
+use Rattle.std.proofs.lemmas.Bool.{agree_below, agree_below_at, eqb-true, ltb-true, leb-true, cases_lt, le-leb, lt-leb}
+use Rattle.l3_huff.specs.Tables.{IsTable, is_table, greatest_of, linbits_at, width_at}
+use Rattle.l3_region.specs.declared.rows.TheConstants.{ROWS}
+use Rattle.l3_region.specs.declared.lanes.TheConstants.{MASKS}
+use Rattle.l3_region.specs.Lanes.{lane_table, lane_class, bound_at, mask_at, row_at}
+
+-- ---- rows
+
+pub row_small : (place k : ℕ) → place < 256 → k < 24 → row_at place k ≤ 32
+unfolding row_at
+row_small place k a b =
+    leb-true _ _ (agree_below_at (λ j. leb (row_at place j) 32) (λ _. true) 24 k
+    (agree_below_at (λ p. agree_below (λ j. leb (row_at p j) 32) (λ _. true) 24) (λ _. true) 256 place refl a) b)
+
+-- table 0 has no bits
+pub row_zero : (place : ℕ) → place < 256 → row_at place 0 ≡ 0
+unfolding row_at
+row_zero place a = eqb-true _ _ (agree_below_at (λ p. eqb (row_at p 0) 0) (λ _. true) 256 place refl a)
+
+pub row_long : (place : ℕ) → place < 256 → length (get_or ROWS place []) ≡ 24
+row_long place a = eqb-true _ _ (agree_below_at (λ p. eqb (length (get_or ROWS p [])) 24) (λ _. true) 256 place refl a)
+
+-- ---- masks and classes
+
+pub mask_small : (class k : ℕ) → class < 14 → k < 24 → mask_at class k ≤ 16384
+unfolding mask_at
+mask_small class k a b =
+    leb-true _ _ (agree_below_at (λ j. leb (mask_at class j) 16384) (λ _. true) 24 k
+    (agree_below_at (λ p. agree_below (λ j. leb (mask_at p j) 16384) (λ _. true) 24) (λ _. true) 14 class refl a) b)
+
+pub mask_long : (class : ℕ) → class < 14 → length (get_or MASKS class []) ≡ 24
+mask_long class a = eqb-true _ _ (agree_below_at (λ p. eqb (length (get_or MASKS p [])) 24) (λ _. true) 14 class refl a)
+
+-- a lane costs more exactly where its class is below the values'
+pub mask_is : (class k : ℕ) → class < 14 → k < 24 → mask_at class k ≡ cond (leb class (lane_class k)) 0 16384
+unfolding mask_at lane_class
+mask_is class k a b =
+    eqb-true _ _ (agree_below_at (λ j. eqb (mask_at class j) (cond (leb class (lane_class j)) 0 16384)) (λ _. true) 24 k
+    (agree_below_at (λ p. agree_below (λ j. eqb (mask_at p j) (cond (leb p (lane_class j)) 0 16384)) (λ _. true) 24) (λ _. true) 14 class refl a) b)
+
+-- the tables of lanes are of the profile and hold values up to the bound of their class
+pub lane_is_table : (k : ℕ) → k < 24 → IsTable (lane_table k)
+unfolding is_table lane_table
+lane_is_table k lt = agree_below_at (λ j. is_table (lane_table j)) (λ _. true) 24 k refl lt
+
+pub greatest_is : (k : ℕ) → k < 24 → greatest_of (lane_table k) ≡ bound_at (lane_class k)
+unfolding greatest_of lane_table bound_at lane_class linbits_at width_at
+greatest_is k lt = eqb-true _ _ (agree_below_at (λ j. eqb (greatest_of (lane_table j)) (bound_at (lane_class j))) (λ _. true) 24 k refl lt)
+
+pub lane_class-lt : (k : ℕ) → k < 24 → lane_class k < 14
+unfolding lane_class
+lane_class-lt k lt = ltb-true _ _ (agree_below_at (λ j. ltb (lane_class j) 14) (λ _. true) 24 k refl lt)
+
+pub bound_last : bound_at 13 ≡ 8206
+unfolding bound_at
+bound_last = refl
+
+pub bound_first : bound_at 0 ≡ 0
+unfolding bound_at
+bound_first = refl
+
+bound_rises-one : (i : ℕ) → i < 13 → bound_at i < bound_at (i + 1)
+unfolding bound_at
+bound_rises-one i lt = ltb-true _ _ (agree_below_at (λ j. ltb (bound_at j) (bound_at (j + 1))) (λ _. true) 13 i refl lt)
+
+bound_rises-by : (i n : ℕ) → i + n < 14 → bound_at i ≤ bound_at (i + n)
+bound_rises-by i zero lt = let same : i + 0 ≡ i = omega arith in rw same (omega arith)
+bound_rises-by i (suc n) lt =
+    let same : i + suc n ≡ i + n + 1 = omega arith in
+    rw same (omega (arith, bound_rises-by i n (omega arith), bound_rises-one (i + n) (omega arith)))
+
+pub bound_rises : (i j : ℕ) → i ≤ j → j < 14 → bound_at i ≤ bound_at j
+bound_rises i j le lt =
+    let same : i + (j - i) ≡ j = omega arith in
+    let grows = bound_rises-by i (j - i) (omega arith) in
+    rw same at grows
+
+-- the class of a value tells which lanes hold it
+pub class_is : (value class k : ℕ) → class < 14 → k < 24 → (class ≡ 0) ⊎ (bound_at (class - 1) < value) → value ≤ bound_at class →
+    leb value (greatest_of (lane_table k)) ≡ leb class (lane_class k)
+class_is value class k lt lk above within =
+    let own = greatest_is k lk in
+    elim (cases_lt (lane_class k) class) [
+      | inl less ↦
+          (let beyond : bound_at (lane_class k) < value = elim above [
+            | inl none ↦ absurd (omega arith)
+            | inr over ↦ omega (arith, over, bound_rises (lane_class k) (class - 1) (omega arith) (omega arith))
+          ] in
+          rw own (lt-leb value (bound_at (lane_class k)) beyond ∙ sym (lt-leb class (lane_class k) less)))
+      | inr more ↦
+          (let held : value ≤ bound_at (lane_class k) = omega (arith, bound_rises class (lane_class k) more (lane_class-lt k lk)) in
+          rw own (le-leb value (bound_at (lane_class k)) held ∙ sym (le-leb class (lane_class k) more)))
+    ]

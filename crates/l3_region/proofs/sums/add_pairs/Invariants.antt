@@ -1,0 +1,6 @@
+use Rattle.std.proofs.Common.{◌≡◌, ℕ, ◌<◌, length, get_or}
+use Rattle.l3_region.specs.Lanes.{lane_sum}
+use Rattle.l3_region.proofs.sums.add_pairs.Given as goal
+
+abbrev pub invariant-loop-n : goal.invariant-loop-n
+invariant-loop-n l = (length l.sums ≡ 24) × ((k : ℕ) → k < 24 → get_or l.sums k 0 ≡ lane_sum l.q k l.n)

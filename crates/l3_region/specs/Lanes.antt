@@ -1,0 +1,123 @@
+-- The code tables side by side, a lane each, and sums over them. Only the inside of this crate speaks of these.
+use Rattle.std.specs.Prelude.{◌≡◌, ◌<◌, ◌≤◌, ◌+◌, ◌-◌, ◌*◌, ◌/◌, ◌%◌, ◌^◌, ℕ, zero, suc, nat_le, List, [], max, min, slice_index, slice_index_or, ℤ, unsigned_abs, All, length, slice_range}
+use Rattle.l3_tables.specs.Lists.{entry}
+use Rattle.l3_tables.specs.Bands.{edge_at}
+use Rattle.l3_region.specs.Regions.{holds_all}
+use Rattle.l3_region.specs.declared.lanes.TheConstants.{TABLES, CLASSES, BOUNDS, MASKS}
+use Rattle.l3_region.specs.declared.rows.TheConstants.{ROWS}
+use Rattle.l3_region.specs.declared.quads.TheConstants.{QUAD_BITS_A, QUAD_BITS_B}
+
+-- the table of a lane
+unfoldable pub lane_table : ℕ → ℕ
+lane_table k = slice_index TABLES k
+
+-- the class of the greatest value that its table holds
+unfoldable pub lane_class : ℕ → ℕ
+lane_class k = slice_index CLASSES k
+
+-- the greatest value of a class
+unfoldable pub bound_at : ℕ → ℕ
+bound_at class = slice_index BOUNDS class
+
+-- what a lane costs besides its bits where the greatest value is of a class
+unfoldable pub mask_at : ℕ → ℕ → ℕ
+mask_at class k = slice_index (slice_index_or MASKS class []) k
+
+-- the bits of the pair at a place in a lane
+unfoldable pub row_at : ℕ → ℕ → ℕ
+row_at place k = slice_index (slice_index_or ROWS place []) k
+
+-- the bits of a quadruple by its index, in each table
+unfoldable pub bits_in_a : ℕ → ℕ
+bits_in_a index = slice_index QUAD_BITS_A index
+
+unfoldable pub bits_in_b : ℕ → ℕ
+bits_in_b index = slice_index QUAD_BITS_B index
+
+-- the place of a pair, by its absolute values cut at 15
+unfoldable pub place_of : ℤ → ℤ → ℕ
+place_of x y = 16 * min (unsigned_abs x) 15 + min (unsigned_abs y) 15
+
+-- the bits of the first n pairs in a lane
+unfoldable pub lane_sum : List ℤ → ℕ → ℕ → ℕ
+lane_sum q k zero = 0
+lane_sum q k (suc n) = lane_sum q k n + row_at (place_of (entry q (2 * n)) (entry q (2 * n + 1))) k
+
+-- the values are of a class: the tables that hold them are those of at least this class
+abbrev pub IsClass : List ℤ → ℕ → Type 0
+IsClass values class = (k : ℕ) → k < 24 → holds_all (lane_table k) values ≡ nat_le class (lane_class k)
+
+-- lane k of the sums up to band b
+abbrev pub sum_at : List (List ℕ) → ℕ → ℕ → ℕ
+sum_at rows b k = slice_index (slice_index_or rows b []) k
+
+-- the greatest class of n bands from band i on
+unfoldable pub class_from : List ℕ → ℕ → ℕ → ℕ
+class_from classes i zero = 0
+class_from classes i (suc n) = max (class_from classes i n) (slice_index classes (i + n))
+
+-- what a lane costs between two rows of sums
+abbrev pub lane_cost : List ℕ → List ℕ → ℕ → ℕ → ℕ
+lane_cost low high class k = slice_index high k - slice_index low k + mask_at class k
+
+-- the least of f 0 .. f (n - 1)
+unfoldable pub least_below : (ℕ → ℕ) → ℕ → ℕ
+least_below f zero = 2 ^ 16 - 1
+least_below f (suc n) = min (least_below f n) (f n)
+
+-- what n bands from band i on cost in the cheapest lane
+unfoldable pub range_cost : List (List ℕ) → List ℕ → ℕ → ℕ → ℕ
+range_cost rows classes i n = least_below (lane_cost (slice_index_or rows i []) (slice_index_or rows (i + n) []) (class_from classes i n)) 24
+
+-- a range of bands and the band after it cost no more apart than together
+abbrev pub CostsGrow : List (List ℕ) → List ℕ → Type 0
+CostsGrow rows classes = (i n : ℕ) → i + n < 22 → range_cost rows classes i n + range_cost rows classes (i + n) 1 ≤ range_cost rows classes i (n + 1)
+
+-- bands cost at least the difference of two floors
+abbrev pub AreFloors : List (List ℕ) → List ℕ → List ℕ → Type 0
+AreFloors rows classes floors = (i n : ℕ) → i + n ≤ 22 →
+    (slice_index floors i ≤ slice_index floors (i + n)) × (slice_index floors (i + n) ≤ slice_index floors i + range_cost rows classes i n)
+
+-- what the regions cost for pair i of region0_count and region1_count, that is (i / 8, i % 8)
+unfoldable pub pair_cost : List (List ℕ) → List ℕ → ℕ → ℕ
+pair_cost rows classes i =
+    range_cost rows classes 0 (i / 8 + 1) + range_cost rows classes (i / 8 + 1) (i % 8 + 1) + range_cost rows classes (i / 8 + i % 8 + 2) (20 - (i / 8 + i % 8))
+
+-- region 1 ends within the 22 bands
+abbrev pub IsPair : ℕ → Type 0
+IsPair i = i / 8 + i % 8 + 2 ≤ 22
+
+-- lane r is the first of those of least cost
+pub record IsFirstLane (f : ℕ → ℕ) (n r : ℕ) : Type 0 where
+  pub below : r < n
+  pub least : (j : ℕ) → j < n → f r ≤ f j
+  pub first : (j : ℕ) → j < r → f r < f j
+
+-- pair r is the first of those of least cost among the first n, and costs so many bits; of no pairs, more than any costs
+pub record IsBestPair (f : ℕ → ℕ) (n r bits : ℕ) : Type 0 where
+  pub lower : (j : ℕ) → j < n → IsPair j → bits ≤ f j
+  pub earlier : (j : ℕ) → j < n → j < r → IsPair j → bits < f j
+  pub found : 0 < n → (r < n) × IsPair r × (bits ≡ f r)
+  pub none : n ≡ 0 → bits ≡ 2 ^ 32 - 1
+
+-- rows of sums that rise lane by lane and stay small, without bits in the lane of table 0, and classes that there are
+pub record AreSums (rows : List (List ℕ)) (classes : List ℕ) : Type 0 where
+  pub rising : (i j k : ℕ) → i ≤ j → j ≤ 22 → k < 24 → sum_at rows i k ≤ sum_at rows j k
+  pub small : (i k : ℕ) → i ≤ 22 → k < 24 → sum_at rows i k ≤ 9216
+  pub zero_bits : (i : ℕ) → i ≤ 22 → sum_at rows i 0 ≡ 0
+  pub classed : (i n : ℕ) → i + n ≤ 22 → class_from classes i n < 14
+
+-- the values between two edges, cut at the line where the pairs end
+abbrev pub values_between : List ℤ → ℕ → ℕ → ℕ → ℕ → List ℤ
+values_between q rate end i j = slice_range q (min (edge_at rate i) end) (min (edge_at rate j) end)
+
+-- rows and classes are those of the values up to a line: the sums of each lane up to each band, and the class of each band
+pub record AreSumsOf (q : List ℤ) (rate end : ℕ) (rows : List (List ℕ)) (classes : List ℕ) : Type 0 where
+  pub rate_small : rate < 3
+  pub even : end % 2 ≡ 0
+  pub within : end ≤ 576
+  pub long : length q ≡ 576
+  pub codable : All (λ x. unsigned_abs x ≤ 8191) q
+  pub sums : (b k : ℕ) → b < 23 → k < 24 → sum_at rows b k ≡ lane_sum q k (min (edge_at rate b) end / 2)
+  pub classed : (b : ℕ) → b < 22 → IsClass (values_between q rate end b (b + 1)) (slice_index classes b)
+  pub few : (b : ℕ) → b < 22 → slice_index classes b < 14

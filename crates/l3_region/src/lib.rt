@@ -1,0 +1,23 @@
+//! Quantised values -> their split, the regions and tables of fewest bits.
+//!
+//! The 576 quantised values of a unit -> how many pairs and quadruples they are, and the regions and code tables that take the fewest bits.
+//! Before: the quantiser and the code tables; after: the bit count of a unit at a gain.
+//! Which regions and tables are taken is an encoder's own choice; to take the fewest bits, and the first at a tie, is this project's.
+#![tactic(auto)]
+
+mod choice;
+mod lanes;
+mod laws;
+mod quads;
+mod regions;
+mod rows;
+mod split;
+mod sums;
+
+pub use l3_huff::QuadTable;
+pub use laws::fewest_bits;
+pub use regions::{Regions, best};
+pub use split::{Split, split_of};
+
+#[cfg(test)]
+mod tests;

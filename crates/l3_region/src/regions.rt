@@ -1,0 +1,81 @@
+ghost use Rattle.std.specs.Prelude.{◌≡◌, ◌≤◌, ◌<◌, ◌+◌, ◌*◌, ℕ, All, length, replicate, slice_index, unsigned_abs};
+ghost use Rattle.l3_base.specs.Rates.{hertz_index_of};
+ghost use Rattle.l3_tables.specs.Bands.{edges_at};
+ghost use Rattle.l3_region.specs.Split.{split_of};
+ghost use Rattle.l3_region.specs.Regions.{regions_of};
+ghost use Rattle.l3_region.specs.Laws.{HoldsAll, region};
+
+use crate::choice::{Row, best_pair, range_table};
+use crate::quads::best_quads;
+use crate::split::Split;
+use crate::sums::sum_bands;
+use l3_base::SampleRate;
+use l3_huff::QuadTable;
+
+/// The regions and tables of a unit, and the bits of all its codes.
+#[derive(Clone, Copy, Debug, PartialEq, Eq)]
+pub struct Regions {
+    /// `region0_count`: the bands of region 0 less one, 0 to 15.
+    pub region0: u8,
+    /// `region1_count`: the bands of region 1 less one, 0 to 7.
+    pub region1: u8,
+    /// `table_select`: the tables of the three regions.
+    pub tables: [u8; 3],
+    /// `count1table_select`: the table of the quadruples.
+    pub quad: QuadTable,
+    /// The bits of all pairs and quadruples, linbits and signs included.
+    pub bits: u32,
+}
+
+/// Room for the sums up to each band.
+#[inline(always)]
+fn no_sums() -> [Row; 23]
+    ensures { result ≡ replicate 23 (replicate 24 0) }
+{
+    [[0; 24]; 23]
+}
+
+/// Room for the class of each band.
+#[inline(always)]
+fn no_classes() -> [u8; 22]
+    ensures { result ≡ replicate 22 0 }
+{
+    [0; 22]
+}
+
+/// The regions and tables that take the fewest bits, for values of at most 8191 in absolute value.
+///
+/// Of equal choices it is the one of least `region0_count`, then `region1_count`, with tables of least number, and table A for quadruples.
+/// Bands are those of long blocks at the sampling frequency. Errors: none.
+pub fn best(q: &[i16; 576], split: Split, rate: SampleRate) -> Regions
+    requires small { All (λ x. unsigned_abs x ≤ 8191) q.now }
+    requires split { split ≡ split_of q.now }
+    ensures value { result ≡ regions_of (edges_at (hertz_index_of rate)) q.now }
+    ensures limit { result.bits ≤ 9216 }
+    ensures first { result.region0 ≤ 15 }
+    ensures second { result.region1 ≤ 7 }
+    ensures within { result.region0 + result.region1 + 2 ≤ 22 }
+    ensures three { length result.tables ≡ 3 }
+    ensures held { (r : ℕ) → r < 3 → HoldsAll (slice_index result.tables r) (region (edges_at (hertz_index_of rate)) q.now result.region0 result.region1 r) }
+{
+    let end = 2 * usize::from(split.big);
+    let mut rows = no_sums();
+    let mut classes = no_classes();
+    sum_bands(q, end, rate.index(), &mut rows, &mut classes);
+    let pair = best_pair(&rows, &classes);
+    let second = usize::from(pair.region0) + 1;
+    let third = second + usize::from(pair.region1) + 1;
+    let tables = [
+        range_table(&rows, &classes, 0, second),
+        range_table(&rows, &classes, second, third),
+        range_table(&rows, &classes, third, 22),
+    ];
+    let quads = best_quads(q, end, usize::from(split.quads));
+    Regions {
+        region0: pair.region0,
+        region1: pair.region1,
+        tables,
+        quad: quads.table,
+        bits: pair.bits + quads.bits,
+    }
+}
