@@ -1,0 +1,19 @@
+//! A spectrum and a gain -> what the unit costs there; the memo of such counts.
+//!
+//! The quantised values of one channel of one granule at a `global_gain` -> their split, regions and tables, and the bits of all their codes.
+//! Before: quantiser, split and regions; after: the search for the least gain within a budget.
+#![tactic(auto)]
+
+mod count;
+mod counting;
+mod laws;
+mod memo;
+
+pub use count::Count;
+pub use counting::count_at;
+pub use l3_region::{QuadTable, Regions, Split};
+pub use laws::counts_are_least;
+pub use memo::Memo;
+
+#[cfg(test)]
+mod tests;
