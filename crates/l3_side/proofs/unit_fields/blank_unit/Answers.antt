@@ -1,0 +1,8 @@
+use Rattle.std.proofs.Common.{refl}
+use Rattle.l3_stream.specs.Units.{zero_lines}
+use Rattle.l3_stream.specs.Frames.{blank}
+use Rattle.l3_side.proofs.unit_fields.blank_unit.Goals as goal
+
+pub returns : goal.returns
+unfolding blank zero_lines
+returns c = refl
