@@ -1,0 +1,119 @@
+ghost use Rattle.std.specs.Prelude.{◌≡◌, ◌≤◌, ◌+◌, All, Some};
+ghost use Rattle.l3_base.specs.Rates.{hertz_index_of};
+ghost use Rattle.l3_base.specs.Spectrum.{IsLine};
+ghost use Rattle.l3_quant.specs.Gains.{first_gain_of};
+ghost use Rattle.l3_count.specs.Bands.{edges_at};
+ghost use Rattle.l3_count.specs.Count.{count_of};
+ghost use Rattle.l3_count.specs.Memo.{IsMemoOf};
+ghost use Rattle.l3_search.specs.Gain.{HasCountsTo, IsLeastWithin, lacking, picked, picked_gain, tried_of};
+
+use l3_base::{SampleRate, Spectrum, Steps};
+use l3_count::{Count, Memo, count_at};
+use l3_quant::first_gain;
+use std::sync::ledger::Ledger;
+
+/// What a unit takes within its budget.
+#[derive(Clone, Copy, Debug)]
+pub struct Picked {
+    /// The count at the picked gain.
+    pub count: Count,
+    /// How many counts were made for it, 0 to 256.
+    pub made: u16,
+}
+
+/// The first gain of a spectrum.
+#[inline(always)]
+fn start(spec: &Spectrum) -> u8
+    ensures value { result ≡ first_gain_of spec.now }
+    ensures small { All IsLine spec.now }
+{
+    let _lines = spec.lines();
+    first_gain(spec)
+}
+
+/// Makes the count at a gain that is no less than the first one, and puts it into the memo.
+fn make<L: Ledger + Send>(
+    spec: &Spectrum,
+    rate: SampleRate,
+    gain: u8,
+    memo: &mut Memo,
+    steps: &mut Steps<L>,
+) -> Count
+    requires first { first_gain_of spec.now ≤ gain }
+    requires memo { IsMemoOf (edges_at (hertz_index_of rate)) spec.now memo.old }
+    ensures count { count_of (edges_at (hertz_index_of rate)) spec.now gain ≡ Some result }
+    ensures ticks { steps.new ≡ steps.old + 1 }
+    ensures memo { HasCountsTo (edges_at (hertz_index_of rate)) spec.now gain gain memo.old memo.new }
+    ensures kept { IsMemoOf (edges_at (hertz_index_of rate)) spec.now memo.new }
+{
+    match count_at(spec, rate, gain, steps) {
+        None => unreachable!(),
+        Some(count) => {
+            memo.put(count);
+            count
+        }
+    }
+}
+
+/// The memo's count at a gain that is no less than the first one, or where it has none, one that is made.
+fn look_up<L: Ledger + Send>(
+    spec: &Spectrum,
+    rate: SampleRate,
+    gain: u8,
+    memo: &mut Memo,
+    steps: &mut Steps<L>,
+) -> Picked
+    requires first { first_gain_of spec.now ≤ gain }
+    requires memo { IsMemoOf (edges_at (hertz_index_of rate)) spec.now memo.old }
+    ensures count { count_of (edges_at (hertz_index_of rate)) spec.now gain ≡ Some result.count }
+    ensures made { result.made ≡ lacking memo.old gain gain }
+    ensures one { result.made ≤ 1 }
+    ensures ticks { steps.new ≡ steps.old + result.made }
+    ensures memo { HasCountsTo (edges_at (hertz_index_of rate)) spec.now gain gain memo.old memo.new }
+    ensures kept { IsMemoOf (edges_at (hertz_index_of rate)) spec.now memo.new }
+{
+    match memo.get(gain) {
+        Some(count) => Picked { count, made: 0 },
+        None => {
+            let count = make(spec, rate, gain, memo, steps);
+            Picked { count, made: 1 }
+        }
+    }
+}
+
+/// The count at the least gain of 0 to 255 whose bits are at most the budget. There is one for each budget, since at 255 no bits are left.
+///
+/// The memo's counts are those of this spectrum. What it lacks up to the picked gain is counted and put into it, one step of the counter
+/// each; bits need not fall as the gain rises, so no gain is passed over. That the least gain is taken is this project's own.
+pub fn pick<L: Ledger + Send>(
+    spec: &Spectrum,
+    rate: SampleRate,
+    budget: u32,
+    memo: &mut Memo,
+    steps: &mut Steps<L>,
+) -> Picked
+    requires memo { IsMemoOf (edges_at (hertz_index_of rate)) spec.now memo.old }
+    ensures count { picked (edges_at (hertz_index_of rate)) spec.now budget ≡ Some result.count }
+    ensures gain { result.count.gain ≡ picked_gain (edges_at (hertz_index_of rate)) spec.now budget }
+    ensures least { IsLeastWithin (edges_at (hertz_index_of rate)) spec.now budget result.count }
+    ensures within { result.count.bits ≤ budget }
+    ensures made { result.made ≡ lacking memo.old (first_gain_of spec.now) (picked_gain (edges_at (hertz_index_of rate)) spec.now budget) }
+    ensures tried { result.made ≤ tried_of (edges_at (hertz_index_of rate)) spec.now budget }
+    ensures limit { result.made ≤ 256 }
+    ensures ticks { steps.new ≡ steps.old + result.made }
+    ensures memo { HasCountsTo (edges_at (hertz_index_of rate)) spec.now (first_gain_of spec.now) (picked_gain (edges_at (hertz_index_of rate)) spec.now budget) memo.old memo.new }
+    ensures kept { IsMemoOf (edges_at (hertz_index_of rate)) spec.now memo.new }
+{
+    let mut gain = start(spec);
+    let mut found = look_up(spec, rate, gain, memo, steps);
+    let mut made = found.made;
+    while found.count.bits() > budget {
+        gain += 1;
+        found = look_up(spec, rate, gain, memo, steps);
+        made += found.made;
+    }
+    Picked {
+        count: found.count,
+        made,
+    }
+}

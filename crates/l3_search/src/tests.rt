@@ -1,0 +1,50 @@
+ghost use Rattle.std.specs.Prelude.{◌≡◌, ◌<◌};
+
+use crate::{Memo, Picked, pick};
+use l3_base::{SampleRate, Spectrum, Steps};
+use l3_quant::first_gain;
+use std::marker::Brand;
+use std::sync::ledger::{Blank, Ledger};
+
+// A spectrum with one line that may not be 0.
+fn spectrum(line: i32) -> Spectrum {
+    let mut spec = Spectrum::zero();
+    if line.unsigned_abs() < 1 << 29 {
+        spec.set(0, line);
+    }
+    spec
+}
+
+fn numbers(picked: &Picked) -> (u8, u32, u16) {
+    (picked.count.gain(), picked.count.bits(), picked.made)
+}
+
+// What is picked at 44100 Hz for two budgets in turn with one memo: gain, bits, counts that were made.
+fn picks<L: Ledger + Send>(blank: Blank, line: i32, budget: u32, next: u32) -> [(u8, u32, u16); 2]
+    requires name { blank.name ≡ L.name }
+    requires parts { blank.parts ≡ L.parts }
+    requires some { 0 < blank.parts }
+{
+    let spec = spectrum(line);
+    let mut memo = Memo::new();
+    let mut steps: Steps<L> = Steps::start(blank);
+    let first = pick(&spec, SampleRate::Hz44100, budget, &mut memo, &mut steps);
+    let second = pick(&spec, SampleRate::Hz44100, next, &mut memo, &mut steps);
+    [numbers(&first), numbers(&second)]
+}
+
+#[test]
+fn pick_with_a_memo(rt: HostRuntime) {
+    let cases = [
+        (16777216, 141, 21, 4095, [(152, 20, 12), (141, 22, 0)]),
+        (0, 0, 4095, 0, [(0, 0, 1), (0, 0, 0)]),
+    ];
+    for (line, first, budget, next, picked) in cases {
+        assert_eq!(rt; first_gain(&spectrum(line)), first, "at {line}");
+        assert_eq!(rt;
+            picks::<Brand>(Blank::new(1), line, budget, next),
+            picked,
+            "at {line}"
+        );
+    }
+}
