@@ -1,17 +1,16 @@
 -- When a count fits a budget, and which gain is picked.
-use Rattle.std.proofs.Common.{◌≡◌, ℕ, ◌+◌, ◌<◌, ◌≤◌, ◌⊎◌, ◌^◌, false, true, List, Option, Some, None, refl, sym, ap, ◌∙◌, inl, inr, arith, subst, ℤ}
+use Rattle.std.proofs.Common.{◌≡◌, ℕ, ◌+◌, ◌<◌, ◌≤◌, false, true, List, Option, Some, None, refl, sym, ap, ◌∙◌, inl, inr, arith, ℤ}
 use Rattle.std.specs.Prelude.{All}
 use Rattle.std.proofs.lemmas.Bool.{cases_lt, le-leb, lt-leb}
-use Rattle.l3_base.specs.Choosing.{IsLeastPassing, least_passing}
+use Rattle.l3_base.specs.Choosing.{IsLeastPassing}
 use Rattle.l3_base.specs.Spectrum.{IsLine}
 use Rattle.l3_base.proofs.ChoosingLemmas.{least_passing-is, least_passing-least}
 use Rattle.l3_quant.specs.Gains.{first_gain_of}
 use Rattle.l3_count.specs.Count.{Counted, count_of}
-use Rattle.l3_count.specs.Laws.{IsCountOf}
 use Rattle.l3_count.proofs.Counts.{IsSome-from, from_the_first_gain, none_below_the_first_gain, what_is_taken}
 use Rattle.l3_count.proofs.Tops.{empty_at_the_top}
-use Rattle.l3_search.specs.Gain.{IsLeastWithin, fits, is_within, picked, picked_gain}
-use Rattle.l3_search.specs.Laws.{IsPicked, PickExists}
+use Rattle.l3_search.specs.Gain.{IsLeastWithin, fits, is_within, picked_gain}
+use Rattle.l3_search.specs.Laws.{PickExists}
 
 -- a count within the budget
 pub fits-within : (edges : List ℕ) (lines : List ℤ) (budget gain : ℕ) (c : Counted) → count_of edges lines gain ≡ Some c → c.bits ≤ budget → fits edges lines budget gain ≡ true

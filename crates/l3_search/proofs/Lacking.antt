@@ -1,15 +1,14 @@
 -- How many counts a memo lacks.
-use Rattle.std.proofs.Common.{◌≡◌, ℕ, zero, suc, ◌+◌, ◌-◌, ◌<◌, ◌≤◌, Bool, true, false, List, [], ◌∷◌, ◌++◌, Option, Some, None, length, refl, sym, ap, ◌∙◌, arith, cond, is_none, add-one, subst, ℤ, pos}
-use Rattle.std.specs.List.{count_by, range_with_len, sum_by}
+use Rattle.std.proofs.Common.{◌≡◌, ℕ, zero, suc, ◌+◌, ◌-◌, ◌<◌, ◌≤◌, Bool, true, false, List, [], ◌∷◌, ◌++◌, Option, Some, None, refl, sym, ap, ◌∙◌, arith, cond, is_none}
+use Rattle.std.specs.List.{count_by, range_with_len}
 use Rattle.std.proofs.lemmas.List.FromFn.{length-range_with_len}
 use Rattle.std.proofs.lemmas.List.Sums.{count_by-le-length, sum_by-cons, sum_by_push}
 use Rattle.l3_quant.specs.Gains.{first_gain_of}
-use Rattle.l3_quant.specs.Quantiser.{quantised_lines}
-use Rattle.l3_count.specs.Count.{Counted, count_of, counted}
+use Rattle.l3_count.specs.Count.{Counted}
 use Rattle.l3_count.specs.Memo.{memo_at, no_counts}
 use Rattle.l3_count.proofs.Counts.{count_from_the_first_gain}
 use Rattle.l3_count.proofs.Memos.{memo_at-no_counts}
-use Rattle.l3_search.specs.Gain.{HasCountsTo, gains_from, lacking, picked_gain}
+use Rattle.l3_search.specs.Gain.{lacking, picked_gain}
 use Rattle.l3_search.specs.Laws.{CountedLacksNone, EmptyLacksTried, LacksAtMostTried}
 
 -- one number more

@@ -1,5 +1,5 @@
 -- What is picked, and how many counts that takes.
-use Rattle.std.specs.Prelude.{◌≡◌, ◌≤◌, ◌+◌, ◌-◌, ℕ, List, All, Option, Some, ℤ}
+use Rattle.std.specs.Prelude.{◌≡◌, ◌≤◌, ℕ, List, All, Option, Some, ℤ}
 use Rattle.l3_base.specs.Spectrum.{IsLine}
 use Rattle.l3_quant.specs.Gains.{first_gain_of}
 use Rattle.l3_count.specs.Count.{Counted}

@@ -1,6 +1,6 @@
 //! The header of a frame, 32 bits, the first one most significant (ISO/IEC 11172-3, 2.4.1.3).
 
-ghost use Rattle.std.specs.Prelude.{◌≡◌, ◌≤◌, ◌<◌, ◌^◌, ◌/◌, ◌%◌, Bool, false, IfSome, IfNone};
+ghost use Rattle.std.specs.Prelude.{◌≡◌, ◌≤◌, ◌<◌, ◌^◌, Bool, false, IfSome, IfNone};
 ghost use Rattle.l3_bits.specs.Bits.{digits, bits_of};
 ghost use Rattle.l3_base.specs.declared.settings.Settings.{Settings};
 ghost use Rattle.l3_base.specs.declared.rate.Rate.{Rate};

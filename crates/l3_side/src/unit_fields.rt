@@ -1,6 +1,6 @@
 //! The 59 bits of a unit in the side information, as one number (ISO/IEC 11172-3, 2.4, the audio data of Layer III).
 
-ghost use Rattle.std.specs.Prelude.{◌≡◌, ◌<◌, ◌+◌, ◌≤◌, ◌^◌, ◌/◌, ◌%◌, true, false, slice_index};
+ghost use Rattle.std.specs.Prelude.{◌≡◌, ◌<◌, ◌≤◌, ◌^◌, ◌/◌, ◌%◌, true, false};
 ghost use Rattle.l3_bits.specs.Bits.{digits};
 ghost use Rattle.l3_stream.specs.Units.{HasFields};
 ghost use Rattle.l3_stream.specs.Frames.{blank};

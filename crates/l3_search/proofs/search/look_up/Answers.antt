@@ -1,4 +1,4 @@
-use Rattle.std.proofs.Common.{◌≡◌, sym, ◌∙◌}
+use Rattle.std.proofs.Common.{sym}
 use Rattle.l3_search.proofs.Lacking.{lacking-one_none, lacking-one_there}
 use Rattle.l3_search.proofs.search.look_up.Goals as goal
 

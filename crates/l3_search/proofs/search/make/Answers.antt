@@ -1,8 +1,7 @@
-use Rattle.std.proofs.Common.{◌≡◌, ℕ, ◌≤◌, Some, None, List, sym, ap, ◌∙◌, subst, arith, pos}
+use Rattle.std.proofs.Common.{◌≡◌, Some, None, sym, ap, ◌∙◌, subst, arith}
 use Rattle.l3_base.specs.Rates.{hertz_index_of}
-use Rattle.l3_quant.specs.Quantiser.{quantised_lines}
 use Rattle.l3_count.specs.Bands.{edges_at}
-use Rattle.l3_count.specs.Count.{Counted, count_of, counted}
+use Rattle.l3_count.specs.Count.{count_of}
 use Rattle.l3_count.specs.Memo.{IsMemoOf}
 use Rattle.l3_count.proofs.Counts.{count_from_the_first_gain}
 use Rattle.l3_count.proofs.Memos.{IsMemoOf-put}

@@ -1,4 +1,4 @@
-use Rattle.std.proofs.Common.{◌≡◌, ℕ, ◌+◌, ◌-◌, ◌<◌, ◌≤◌, List, Some, refl, sym, ap, ◌∙◌, arith}
+use Rattle.std.proofs.Common.{◌≡◌, ℕ, ◌+◌, ◌<◌, refl, sym, ap, ◌∙◌, arith}
 use Rattle.l3_base.specs.Rates.{hertz_index_of}
 use Rattle.l3_quant.specs.Gains.{first_gain_of}
 use Rattle.l3_count.specs.Bands.{edges_at}

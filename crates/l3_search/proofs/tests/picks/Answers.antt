@@ -1,4 +1,3 @@
-use Rattle.std.proofs.Common.{◌≡◌}
 use Rattle.l3_count.proofs.Memos.{memo_at-no_counts}
 use Rattle.l3_search.proofs.tests.picks.Goals as goal
 
