@@ -1,0 +1,98 @@
+ghost use Rattle.std.specs.Prelude.{◌≡◌, ◌≤◌, ◌<◌, ◌+◌, ◌^◌, Some, replicate, pos};
+ghost use Rattle.l3_base.specs.Rates.{hertz_index_of};
+ghost use Rattle.l3_mdct.specs.Spectrum.{spectrum_of};
+ghost use Rattle.l3_energy.specs.Demand.{demand_of};
+ghost use Rattle.l3_count.specs.Bands.{edges_at};
+ghost use Rattle.l3_count.specs.Gains.{first_gain_of};
+ghost use Rattle.l3_count.specs.Memo.{IsMemoOf, no_counts};
+ghost use Rattle.l3_search.specs.Gain.{HasCountsTo, lacking, picked, picked_gain};
+ghost use Rattle.l3_analysis.specs.Presumed.{budget_under, reserve_after};
+
+use l3_base::{SampleRate, Settings, Slots36, Spectrum, Steps};
+use l3_count::Memo;
+use l3_energy::demand;
+use l3_mdct::spectrum;
+use l3_polyphase::slots36;
+use l3_reservoir::Reserve;
+use l3_search::{Picked, pick};
+use std::sync::ledger::Ledger;
+
+/// What is made of one channel of a granule.
+#[derive(Drop)]
+pub(crate) struct Analysis {
+    pub(crate) spectrum: Spectrum,
+    pub(crate) demand: u32,
+    pub(crate) memo: Memo,
+}
+
+impl Analysis {
+    /// Nothing was made yet.
+    pub(crate) fn new() -> Analysis
+        ensures { result.memo ≡ no_counts }
+    {
+        Analysis {
+            spectrum: Spectrum::zero(),
+            demand: 0,
+            memo: Memo::new(),
+        }
+    }
+
+    /// Makes spectrum and demand of a window's samples.
+    pub(crate) fn transform(&mut self, samples: &[i16; 1632], rate: SampleRate)
+        ensures spectrum { self.new.spectrum ≡ spectrum_of samples.now }
+        ensures demand { self.new.demand ≡ demand_of (hertz_index_of rate) (spectrum_of samples.now) }
+        ensures memo { self.new.memo ≡ self.old.memo }
+    {
+        let mut slots = Slots36::zero();
+        slots36(samples, &mut slots);
+        spectrum(&slots, &mut self.spectrum);
+        self.demand = demand(&self.spectrum, rate);
+    }
+
+    /// Picks the gain for a budget, with the counts that the memo has.
+    pub(crate) fn choose<L: Ledger + Send>(
+        &mut self,
+        rate: SampleRate,
+        budget: u32,
+        steps: &mut Steps<L>,
+    ) -> Picked
+        requires memo { IsMemoOf (edges_at (hertz_index_of rate)) self.old.spectrum self.old.memo }
+        ensures count { picked (edges_at (hertz_index_of rate)) self.old.spectrum budget ≡ Some result.count }
+        ensures gain { result.count.gain ≡ picked_gain (edges_at (hertz_index_of rate)) self.old.spectrum budget }
+        ensures within { result.count.bits ≤ budget }
+        ensures made { result.made ≡ lacking self.old.memo (first_gain_of self.old.spectrum) (picked_gain (edges_at (hertz_index_of rate)) self.old.spectrum budget) }
+        ensures limit { result.made ≤ 256 }
+        ensures ticks { steps.new ≡ steps.old + result.made }
+        ensures memo { HasCountsTo (edges_at (hertz_index_of rate)) self.old.spectrum (first_gain_of self.old.spectrum) (picked_gain (edges_at (hertz_index_of rate)) self.old.spectrum budget) self.old.memo self.new.memo }
+        ensures kept { IsMemoOf (edges_at (hertz_index_of rate)) self.old.spectrum self.new.memo }
+        ensures spectrum { self.new.spectrum ≡ self.old.spectrum }
+        ensures demand { self.new.demand ≡ self.old.demand }
+    {
+        pick(&self.spectrum, rate, budget, &mut self.memo, steps)
+    }
+
+    /// Picks the gain for the budget under a reserve, and spends the bits of its count.
+    pub(crate) fn presume<L: Ledger + Send>(
+        &mut self,
+        settings: &Settings,
+        frame: u64,
+        reserve: &mut Reserve,
+        steps: &mut Steps<L>,
+    )
+        requires frame { frame ≤ 2 ^ 32 }
+        requires reserve { reserve.old < 2 ^ 33 }
+        requires memo { IsMemoOf (edges_at (hertz_index_of settings.now.sample_rate)) self.old.spectrum self.old.memo }
+        ensures reserve { reserve.new ≡ reserve_after settings.now frame reserve.old self.old.demand self.old.spectrum }
+        ensures bound { reserve.new < reserve.old + 2 ^ 32 }
+        ensures ticks { steps.new ≡ steps.old + lacking self.old.memo (first_gain_of self.old.spectrum) (picked_gain (edges_at (hertz_index_of settings.now.sample_rate)) self.old.spectrum (budget_under settings.now frame reserve.old self.old.demand)) }
+        ensures memo { HasCountsTo (edges_at (hertz_index_of settings.now.sample_rate)) self.old.spectrum (first_gain_of self.old.spectrum) (picked_gain (edges_at (hertz_index_of settings.now.sample_rate)) self.old.spectrum (budget_under settings.now frame reserve.old self.old.demand)) self.old.memo self.new.memo }
+        ensures kept { IsMemoOf (edges_at (hertz_index_of settings.now.sample_rate)) self.old.spectrum self.new.memo }
+        ensures spectrum { self.new.spectrum ≡ self.old.spectrum }
+        ensures demand { self.new.demand ≡ self.old.demand }
+    {
+        let _mean = settings.mean_bits(frame);
+        let budget = reserve.budget(settings, frame, self.demand);
+        let picked = self.choose(settings.sample_rate, budget, steps);
+        reserve.spend(settings, frame, picked.count.bits());
+    }
+}
