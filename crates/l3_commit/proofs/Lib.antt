@@ -1,0 +1,10 @@
+pub mod CodedLines
+pub mod CodedUnits
+pub mod CodedPicks
+pub mod Following
+pub mod Taking
+pub mod Keeping
+pub mod Tracking
+pub mod Standings
+pub mod Windows
+pub mod Encodings

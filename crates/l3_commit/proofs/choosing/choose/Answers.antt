@@ -1,0 +1,29 @@
+use Rattle.std.proofs.Common.{◌∙◌, sym, ap, subst, List, Option}
+use Rattle.l3_count.specs.Count.{Counted}
+use Rattle.l3_count.specs.Memo.{IsMemoOf}
+use Rattle.l3_count.proofs.Memos.{IsMemoOf-no_counts}
+use Rattle.l3_quant.specs.Gains.{first_gain_of}
+use Rattle.l3_search.specs.Gain.{lacking, picked_gain}
+use Rattle.l3_search.proofs.Lacking.{empty_lacks_tried}
+use Rattle.l3_commit.specs.Units.{edges_of}
+use Rattle.l3_commit.proofs.CodedPicks.{picked_in, unit_of_picked}
+use Rattle.l3_commit.proofs.choosing.choose.Goals as goal
+
+pub pick-picked-requires-clause-memo : goal.pick-picked-requires-clause-memo
+pick-picked-requires-clause-memo g c =
+    let edges = edges_of c.args.place.settings in
+    let lines = c.args.spec.now in
+    λ _ _. subst (λ (m : List (Option Counted)). IsMemoOf edges lines m) (sym c.clear.ensures) (IsMemoOf-no_counts edges lines)
+
+pub write_unit-requires : goal.write_unit-requires
+write_unit-requires g c = record { own = picked_in (edges_of c.args.place.settings) c.args.budget c.args.spec.now c.pick-picked.result.count c.pick-picked.ensures.count }
+
+pub returns-clause-value : goal.returns-clause-value
+returns-clause-value g c = c.write_unit.ensures ∙ unit_of_picked c.args.place.settings c.args.budget c.args.spec.now c.pick-picked.result.count c.pick-picked.ensures.count
+
+pub returns-clause-tried : goal.returns-clause-tried
+returns-clause-tried g c =
+    let edges = edges_of c.args.place.settings in
+    let lines = c.args.spec.now in
+    c.pick-picked.ensures.made
+    ∙ (ap (λ (m : List (Option Counted)). lacking m (first_gain_of lines) (picked_gain edges lines c.args.budget)) c.clear.ensures ∙ empty_lacks_tried edges lines c.args.budget)

@@ -1,0 +1,11 @@
+pub use Rattle.l3_search.specs.Rates
+pub use Rattle.l3_search.specs.Spectrum
+pub mod Units
+pub mod Choice
+pub mod Tried
+pub mod Encoding
+pub mod Following
+pub mod Laws
+pub mod Tracks
+pub mod Standing
+pub mod Resting

@@ -1,0 +1,203 @@
+ghost use Rattle.std.specs.Prelude.{◌≡◌, ◌+◌, ◌*◌, ◌≤◌, ◌<◌, ◌^◌, ◌++◌, ◌∷◌, [], ℕ, ℤ, List, length, true, false, IfSome, IfNone, IfOk};
+ghost use Rattle.std.specs.Borrow.{sem};
+ghost use Rattle.l3_base.specs.Lengths.{mmax_of};
+ghost use Rattle.l3_base.specs.declared.settings.Settings.{Settings};
+ghost use Rattle.l3_mdct.specs.Spectrum.{spectrum_of_granule};
+ghost use Rattle.l3_reservoir.specs.Budget.{begin_after};
+ghost use Rattle.l3_stream.specs.declared.unit.ChosenFrame.{ChosenFrame};
+ghost use Rattle.l3_commit.specs.Choice.{frame_chosen};
+ghost use Rattle.l3_commit.specs.Encoding.{frames_for, spectra_of};
+ghost use Rattle.l3_commit.specs.Following.{CanFollow};
+ghost use Rattle.l3_commit.specs.Standing.{IsRightOf, StandsFor, StillStands, gathered, granule_committed, frame_committed, granules_for, total_of};
+ghost use Rattle.l3_commit.specs.Tracks.{first_track, next_of};
+ghost use Rattle.l3_commit.specs.Tried.{tried_at};
+
+use crate::track::{GranuleDone, Track};
+use crate::window::fill;
+use l3_base::{Channels, GranuleNo, Settings, Slots36, Spectrum, Steps};
+use l3_mdct::spectrum;
+use l3_polyphase::slots36;
+use l3_search::Memo;
+use l3_stream::ChosenFrame;
+use l3_wav::Pcm;
+use std::alloc::{AllocError, Global};
+use std::marker::Model;
+use std::sync::ledger::Ledger;
+
+/// Samples in a frame, for each channel.
+const FRAME: u64 = 1152;
+
+/// Goes through the granules of some samples and gives their chosen frames, in order.
+#[derive(Drop)]
+pub struct Committer {
+    track: Track,
+    pcm: Pcm,
+    is_ready: bool,
+    left_lines: Spectrum,
+    right_lines: Spectrum,
+    window: [i16; 1632],
+    slots: Slots36,
+    memo: Memo,
+}
+
+impl Model for Committer {
+    ghost use Rattle.std.specs.Prelude.{length, ◌≤◌};
+    ghost use Rattle.l3_commit.specs.Standing.{CommitterView};
+
+    ghost Value = { CommitterView };
+
+    ghost view = { λ c. record {
+      track = c.track;
+      left = c.pcm.left.items;
+      right = c.pcm.right.items;
+      is_ready = c.is_ready;
+      left_lines = c.left_lines;
+      right_lines = c.right_lines;
+    } };
+
+    ghost invariant = { λ c. length c.pcm.left.items ≤ 2147483647 };
+}
+
+/// How many granules so many samples of a channel are to have: two to a frame.
+fn granules(samples: usize) -> u64
+    requires { samples ≤ 2147483647 }
+    ensures value { result ≡ granules_for samples }
+    ensures small { result ≤ 8589934592 }
+{
+    if samples == 0 {
+        0
+    } else {
+        2 * ((samples as u64).div_ceil(FRAME) + 1)
+    }
+}
+
+/// Makes the spectrum of a granule of samples.
+fn transform(
+    samples: &[i16],
+    granule: u64,
+    window: &mut [i16; 1632],
+    slots: &mut Slots36,
+    lines: &mut Spectrum,
+)
+    requires { granule ≤ 8589934592 }
+    ensures { lines.new ≡ spectrum_of_granule samples.now granule }
+{
+    fill(window, samples, granule);
+    slots36(window, slots);
+    spectrum(slots, lines);
+}
+
+/// A window of zeros.
+fn no_window() -> [i16; 1632] {
+    [0; 1632]
+}
+
+impl Committer {
+    ghost use Rattle.l3_commit.specs.Resting.{RestsCommitter};
+
+    /// Before the first granule of these samples, of which `left` has at most 2147483647, and `right` none in mono and else as many.
+    pub fn open(alloc: Global, settings: Settings, pcm: Pcm) -> Result<Committer, AllocError>
+        requires few { length pcm.left.items ≤ 2147483647 }
+        requires shape { IsRightOf settings.channels pcm.left.items pcm.right.items }
+        ensures stands { IfOk result (λ c. StandsFor c settings pcm.left.items pcm.right.items) }
+        ensures first { IfOk result (λ c. c.track ≡ first_track settings) }
+        ensures ready { IfOk result (λ c. c.is_ready ≡ false) }
+    {
+        let _ = alloc;
+        Ok(Committer {
+            track: Track::new(settings),
+            pcm,
+            is_ready: false,
+            left_lines: Spectrum::zero(),
+            right_lines: Spectrum::zero(),
+            window: no_window(),
+            slots: Slots36::zero(),
+            memo: Memo::new(),
+        })
+    }
+
+    /// The granule to commit next, or `None` where all of them are committed.
+    pub fn next(&self) -> Option<GranuleNo>
+        ensures some { IfSome result (λ g. (g ≡ next_of self.now.track) × (g < total_of self.now)) }
+        ensures none { IfNone result (total_of self.now ≤ next_of self.now.track) }
+        ensures whole { (st : Settings) (left right : List ℤ) → StandsFor self.now st left right →
+            IfNone result (next_of self.now.track ≡ 2 * frames_for (length left)) }
+    {
+        let number = self.track.next();
+        if number < granules(self.pcm.left.len()) {
+            GranuleNo::new(number)
+        } else {
+            None
+        }
+    }
+
+    /// Has the spectra of the next granule at hand.
+    pub fn gather_alone(&mut self)
+        requires { next_of self.old.track < total_of self.old }
+        ensures value { self.new ≡ gathered self.old }
+        ensures stands { StillStands self.old self.new }
+    {
+        let Some(number) = self.next() else {
+            unreachable!();
+        };
+        let granule = number.get();
+        transform(
+            &self.pcm.left,
+            granule,
+            &mut self.window,
+            &mut self.slots,
+            &mut self.left_lines,
+        );
+        if self.track.channels() == Channels::Stereo {
+            transform(
+                &self.pcm.right,
+                granule,
+                &mut self.window,
+                &mut self.slots,
+                &mut self.right_lines,
+            );
+        }
+        self.is_ready = true;
+    }
+
+    /// Commits the granule that is at hand: each channel's unit is the one picked within its budget under the reserve.
+    pub fn commit_granule<L: Ledger + Send>(&mut self, steps: &mut Steps<L>) -> GranuleDone
+        requires ready { self.old.is_ready ≡ true }
+        requires there { next_of self.old.track < total_of self.old }
+        requires turn { length self.old.track.granules < 2 }
+        ensures value { self.new ≡ granule_committed self.old }
+        ensures stands { StillStands self.old self.new }
+        ensures tried { (st : Settings) (left right : List ℤ) → StandsFor self.old st left right →
+            result.tried ≡ tried_at st (spectra_of left right) self.old.track.frame (length self.old.track.granules) }
+        ensures few { result.tried ≤ 512 }
+        ensures made { result.made ≡ result.tried }
+        ensures ticks { steps.new ≡ steps.old + result.made }
+    {
+        let Some(number) = self.next() else {
+            unreachable!();
+        };
+        self.is_ready = false;
+        self.track.commit_granule(
+            number,
+            &self.left_lines,
+            &self.right_lines,
+            &mut self.memo,
+            steps,
+        )
+    }
+
+    /// Ends the frame whose second granule was committed last, by the rule of the reservoir, and lends it out.
+    ///
+    /// Whatever frames it can follow, the next frame can follow them and it.
+    pub fn commit_frame(&mut self) -> &ChosenFrame
+        requires ready { self.old.is_ready ≡ false }
+        requires turn { length self.old.track.granules ≡ 2 }
+        ensures chosen { (st : Settings) (left right : List ℤ) → StandsFor self.old st left right →
+            result.now ≡ frame_chosen st (spectra_of left right) self.old.track.frame }
+        ensures follows { (fs : List ChosenFrame) → CanFollow self.old.track.settings self.old.track.frame self.old.track.begin fs →
+            CanFollow self.old.track.settings (self.old.track.frame + 1) (begin_after self.old.track.reserve (mmax_of self.old.track.settings)) (fs ++ (result.now ∷ [])) }
+        ensures* after_borrow { sem 𝓛 (RestsCommitter self.entry (λ new. (new ≡ frame_committed self.old) × StillStands self.old new)) }
+    {
+        self.track.commit_frame()
+    }
+}

@@ -1,0 +1,23 @@
+//! Samples -> the chosen frames, one after the other.
+//!
+//! What stands in each frame, as mathematics and as code: granule by granule the spectra of the samples, and for each unit
+//! the least gain within its budget of the bit reservoir (ISO/IEC 11172-3, 2.4; how a budget is found is this project's own).
+//! Before: `l3_wav`, which reads samples; the transforms; the search for a gain. After: the encoder, which writes the frames.
+#![tactic(auto)]
+
+mod choosing;
+mod committer;
+mod laws;
+mod report;
+mod track;
+mod unit;
+mod window;
+
+pub use committer::Committer;
+pub use laws::{chosen_frames_are_alone, chosen_frames_fit};
+pub use report::{EncodeFault, Report};
+pub use track::GranuleDone;
+pub use unit::chosen_units_are_coded;
+
+#[cfg(test)]
+mod tests;

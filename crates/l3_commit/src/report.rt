@@ -1,0 +1,30 @@
+use l3_wav::WavFault;
+use thiserror::Error;
+
+/// What an encoding took.
+#[derive(Clone, Copy, Debug, PartialEq, Eq)]
+pub struct Report {
+    /// Frames written.
+    pub frames: u32,
+    /// Gains tried: for each unit those from its first gain to the picked one.
+    pub tried: u64,
+    /// Counts made for them.
+    pub made: u64,
+}
+
+/// Why an encoding was given up.
+#[derive(Clone, Copy, Debug, PartialEq, Eq, Error)]
+pub enum EncodeFault {
+    /// There is no memory, and nothing was written.
+    #[error("out of memory")]
+    Memory,
+    /// The source holds no WAV file that can be encoded.
+    #[error("no WAV file to encode: {0}")]
+    Wav(WavFault),
+    /// A read of the samples failed.
+    #[error("a read of the samples failed")]
+    Read,
+    /// A write of the stream failed.
+    #[error("a write of the stream failed")]
+    Write,
+}
