@@ -84,3 +84,11 @@ CanFollow-more st n begin left next f fs is near coded kept small before =
 pub nothing-follows : (st : Settings) → CanFollow st 0 0 []
 unfolding end_after
 nothing-follows st = record { number = refl; fit = tt; there = omega arith; behind = omega arith }
+
+-- the frames behind some others
+pub FramesFit-back : (st : Settings) (n end m : ℕ) (fs gs : List ChosenFrame) → n + length fs ≡ m → FramesFit st n end (fs ++ gs) → FramesFit st m (end_after st n end fs) gs
+unfolding end_after
+FramesFit-back st n end m [] gs e fit =
+    let same : n ≡ m = omega (arith, e) in
+    subst (λ (i : ℕ). FramesFit st i end gs) same fit
+FramesFit-back st n end m (f ∷ fs) gs e fit = FramesFit-back st (suc n) (end_of st n f) m fs gs (shift n (length fs) m e) fit.1

@@ -8,3 +8,4 @@ pub mod Tracking
 pub mod Standings
 pub mod Windows
 pub mod Encodings
+pub mod Rests

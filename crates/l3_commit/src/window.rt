@@ -18,12 +18,28 @@ fn sample(samples: &[i16], place: u64) -> i16
     }
 }
 
-/// Fills in the window of a granule: the 1632 samples from 1056 before its own first one on, 0 outside the samples.
-pub(crate) fn fill(window: &mut [i16; 1632], samples: &[i16], granule: u64)
+/// Fills in a window sample by sample: some of it may be outside the samples.
+fn fill_at_an_end(window: &mut [i16; 1632], samples: &[i16], granule: u64)
     requires { granule ≤ 8589934592 }
     ensures { window.new ≡ window_of samples.now granule }
 {
     for n in 0..1632 {
         window[n] = sample(samples, 576 * granule + n as u64);
+    }
+}
+
+/// Fills in the window of a granule: the 1632 samples from 1056 before its own first one on, 0 outside the samples.
+pub(crate) fn fill(window: &mut [i16; 1632], samples: &[i16], granule: u64)
+    requires { granule ≤ 8589934592 }
+    ensures { window.new ≡ window_of samples.now granule }
+{
+    let start = 576 * granule;
+    if start < BEFORE {
+        fill_at_an_end(window, samples, granule);
+    } else if start + 576 > samples.len() as u64 {
+        fill_at_an_end(window, samples, granule);
+    } else {
+        let first = (start - BEFORE) as usize;
+        window.copy_from_slice(&samples[first..first + 1632]);
     }
 }

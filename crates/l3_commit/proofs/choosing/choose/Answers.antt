@@ -1,9 +1,10 @@
-use Rattle.std.proofs.Common.{◌∙◌, sym, ap, subst, List, Option}
+use Rattle.std.proofs.Common.{◌≡◌, ◌∙◌, sym, ap, subst, ℕ, List, Option}
+use Rattle.std.specs.Prelude.{ℤ}
 use Rattle.l3_count.specs.Count.{Counted}
-use Rattle.l3_count.specs.Memo.{IsMemoOf}
+use Rattle.l3_count.specs.Memo.{IsMemoOf, no_counts}
 use Rattle.l3_count.proofs.Memos.{IsMemoOf-no_counts}
 use Rattle.l3_quant.specs.Gains.{first_gain_of}
-use Rattle.l3_search.specs.Gain.{lacking, picked_gain}
+use Rattle.l3_search.specs.Gain.{lacking, picked_gain, tried_of}
 use Rattle.l3_search.proofs.Lacking.{empty_lacks_tried}
 use Rattle.l3_commit.specs.Units.{edges_of}
 use Rattle.l3_commit.proofs.CodedPicks.{picked_in, unit_of_picked}
@@ -21,9 +22,11 @@ write_unit-requires g c = record { own = picked_in (edges_of c.args.place.settin
 pub returns-clause-value : goal.returns-clause-value
 returns-clause-value g c = c.write_unit.ensures ∙ unit_of_picked c.args.place.settings c.args.budget c.args.spec.now c.pick-picked.result.count c.pick-picked.ensures.count
 
+-- with no counts, all gains that are tried are counted
+lacks-tried : (edges : List ℕ) (lines : List ℤ) (budget made : ℕ) (memo : List (Option Counted)) → memo ≡ no_counts → made ≡ lacking memo (first_gain_of lines) (picked_gain edges lines budget)
+    → made ≡ tried_of edges lines budget
+lacks-tried edges lines budget made memo empty is =
+    is ∙ (ap (λ (m : List (Option Counted)). lacking m (first_gain_of lines) (picked_gain edges lines budget)) empty ∙ empty_lacks_tried edges lines budget)
+
 pub returns-clause-tried : goal.returns-clause-tried
-returns-clause-tried g c =
-    let edges = edges_of c.args.place.settings in
-    let lines = c.args.spec.now in
-    c.pick-picked.ensures.made
-    ∙ (ap (λ (m : List (Option Counted)). lacking m (first_gain_of lines) (picked_gain edges lines c.args.budget)) c.clear.ensures ∙ empty_lacks_tried edges lines c.args.budget)
+returns-clause-tried g c = lacks-tried (edges_of c.args.place.settings) c.args.spec.now c.args.budget c.pick-picked.result.made _ c.clear.ensures c.pick-picked.ensures.made
