@@ -13,7 +13,7 @@ use Rattle.l3_region.specs.Laws.{HoldsAll, MayTake, region}
 use Rattle.l3_region.proofs.Fewest.{none_fewer, zero_bits}
 use Rattle.l3_region.proofs.Ranges.{All-slice}
 use Rattle.l3_region.proofs.SplitLemmas.{ones_before-full, ones_none, split_of-big, split_of-quads, zero_from-start}
-use Rattle.l3_region.proofs.Tests.{all_true}
+use Rattle.l3_region.proofs.AllPass.{all_true}
 use Rattle.l3_count.specs.Count.{counted}
 use Rattle.l3_count.specs.Laws.{EmptyAtTheTop}
 use Rattle.l3_count.proofs.Counts.{count_of-some, first_gain_of-le}
