@@ -1,2 +1,10 @@
 pub mod FieldLemmas
 pub mod SilenceLemmas
+pub mod SlotLemmas
+pub mod JoinedLemmas
+pub mod TapeLemmas
+pub mod NotedLemmas
+pub mod GivenLemmas
+pub mod CodeLemmas
+pub mod HeadLemmas
+pub mod WriterLemmas

@@ -1,2 +1,5 @@
 pub mod Frames
 pub mod Silence
+pub mod Writing
+pub mod Laying
+pub mod Pending

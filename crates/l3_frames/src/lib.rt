@@ -1,14 +1,23 @@
-//! Frames -> bytes at a sink: so far the frames of silence.
+//! Frames -> bytes at a sink: the writer of chosen frames, and the frames of silence.
 //!
-//! Before: `l3_base` (lengths and header bits), `l3_bits`, `l3_io`. After: the program.
+//! The main data of a frame may begin in the slots of the frames before it (ISO/IEC 11172-3, 2.4, main_data_begin), so a frame is given
+//! once no later frame can reach into its slot; the bytes given are right whatever is pushed later.
+//! Before: `l3_side` (header and side information), `l3_huff` (codes), `l3_stream` (units and the tape), `l3_bits`, `l3_io`.
+//! After: the encoder and the program.
 #![tactic(auto)]
 
+mod codes;
 mod frames;
+mod head;
 mod header;
+mod pending;
 mod silence;
+mod slots;
+mod writer;
 
 pub use frames::{FRAME_LIMIT, SAMPLE_LIMIT, frames_of};
 pub use silence::write_silence;
+pub use writer::FrameWriter;
 
 #[cfg(test)]
 mod tests;

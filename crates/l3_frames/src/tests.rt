@@ -1,6 +1,10 @@
-use crate::{frames_of, write_silence};
+ghost use Rattle.std.specs.Prelude.{◌≡◌, ◌+◌, ◌≤◌, length};
+
+use crate::{FrameWriter, frames_of, write_silence};
 use l3_base::{Channels, Rate, SampleRate, Settings, WriteFault};
 use l3_io::MemSink;
+use l3_stream::{ChosenFrame, QuadTable, Unit};
+use std::process::Abort;
 use std::test::Fail;
 
 const COMMON: Settings = Settings {
@@ -84,5 +88,189 @@ fn a_sink_that_fails_has_a_front(rt: HostRuntime) -> Result<(), Fail> {
         assert_eq!(rt; write_silence(&LOWEST, 11, &mut sink), Err(WriteFault));
         assert_eq!(rt; Some(sink.bytes()), stream.get(..taken));
     }
+    Ok(())
+}
+
+// A unit of one pair of table 1, or of none where its first line is 0.
+fn unit_of(first: i16) -> Unit {
+    let mut unit = Unit {
+        length: 0,
+        big: 0,
+        quads: 0,
+        gain: 0,
+        region0: 0,
+        region1: 0,
+        tables: [0; 3],
+        quad: QuadTable::A,
+        lines: no_lines(),
+    };
+    if first != 0 {
+        unit.length = 3;
+        unit.big = 1;
+        unit.tables[0] = 1;
+        unit.lines[0] = first;
+    }
+    unit
+}
+
+fn no_lines() -> [i16; 576] {
+    [0; 576]
+}
+
+fn frame_of(begin: u16, first: i16) -> ChosenFrame {
+    let none = unit_of(0);
+    ChosenFrame {
+        begin,
+        units: [[unit_of(first), none], [none; 2]],
+    }
+}
+
+fn push_fitting(
+    rt: &impl Abort,
+    writer: &mut FrameWriter,
+    frame: &ChosenFrame,
+    sink: &mut MemSink,
+) -> Result<(), WriteFault>
+    requires { writer.old.frames ≤ 20 }
+    ensures { writer.new.frames ≡ writer.old.frames + 1 }
+{
+    assert!(rt; !writer.failed() && writer.fits(frame));
+    writer.push(frame, sink)
+}
+
+// Pushes frames, each by its begin and first line, and finishes.
+fn write_frames(
+    rt: &impl Abort,
+    settings: Settings,
+    frames: &[(u16, i16)],
+    sink: &mut MemSink,
+) -> Result<(), WriteFault>
+    requires { length frames.now ≤ 20 }
+{
+    let mut writer = FrameWriter::new(settings);
+    for (begin, first) in frames {
+        push_fitting(rt, &mut writer, &frame_of(*begin, *first), sink)?;
+    }
+    assert!(rt; !writer.failed());
+    writer.finish(sink)
+}
+
+#[test]
+fn silent_frames_are_silence(rt: HostRuntime) -> Result<(), Fail> {
+    let common = [(0, 0), (396, 0), (511, 0)];
+    let lowest = [
+        (0, 0),
+        (60, 0),
+        (120, 0),
+        (180, 0),
+        (240, 0),
+        (300, 0),
+        (360, 0),
+        (420, 0),
+        (480, 0),
+        (511, 0),
+        (511, 0),
+    ];
+    for (settings, count, frames) in [
+        (COMMON, 3, common.as_slice()),
+        (LOWEST, 11, lowest.as_slice()),
+    ] {
+        let mut sink = MemSink::new(rt.alloc(), 4096, 500, &[])?;
+        assert_eq!(rt; write_frames(&rt, settings, frames, &mut sink), Ok(()));
+        let mut silence = MemSink::new(rt.alloc(), 4096, 500, &[])?;
+        assert_eq!(rt; write_silence(&settings, count, &mut silence), Ok(()));
+        assert_eq!(rt; sink.bytes(), silence.bytes());
+    }
+    Ok(())
+}
+
+#[test]
+fn two_frames_share_a_slot(rt: HostRuntime) -> Result<(), Fail> {
+    let mut sink = MemSink::new(rt.alloc(), 4096, 500, &[])?;
+    assert_eq!(rt;
+        write_frames(&rt, COMMON, &[(0, 1), (395, -1)], &mut sink),
+        Ok(())
+    );
+    assert_eq!(rt; sink.bytes().len(), 835);
+
+    // Header, main_data_begin and the first unit's fields; the codes 010 and 011, each from a whole byte on, and zeros.
+    for (at, piece) in [
+        (0, [0xFF, 0xFB, 0x90, 0xC0, 0, 0, 0, 12, 2, 0, 0, 0x80]),
+        (21, [0x40, 0x60, 0, 0, 0, 0, 0, 0, 0, 0, 0, 0]),
+        (
+            417,
+            [0xFF, 0xFB, 0x92, 0xC0, 0xC5, 0x80, 0, 12, 2, 0, 0, 0x80],
+        ),
+        (438, [0; 12]),
+    ] {
+        assert_eq!(rt;
+            sink.bytes().get(at..at + 12),
+            Some(piece.as_slice()),
+            "at {at}"
+        );
+    }
+    Ok(())
+}
+
+#[test]
+fn what_fits(rt: HostRuntime) -> Result<(), Fail> {
+    let mut sink = MemSink::new(rt.alloc(), 4096, 500, &[])?;
+    let mut writer = FrameWriter::new(COMMON);
+    assert!(rt; !writer.fits(&frame_of(1, 0)));
+    assert_eq!(rt;
+        push_fitting(&rt, &mut writer, &frame_of(0, 1), &mut sink),
+        Ok(())
+    );
+
+    // The codes so far end in byte 0 of 396.
+    for (begin, fits) in [(397, false), (396, false), (395, true), (0, true)] {
+        assert_eq!(rt; writer.fits(&frame_of(begin, 1)), fits, "begin {begin}");
+    }
+
+    // Without codes the whole tape is open, but for the 9 bits of main_data_begin.
+    let mut silent = FrameWriter::new(COMMON);
+    assert_eq!(rt;
+        push_fitting(&rt, &mut silent, &frame_of(0, 0), &mut sink),
+        Ok(())
+    );
+    assert_eq!(rt;
+        push_fitting(&rt, &mut silent, &frame_of(396, 0), &mut sink),
+        Ok(())
+    );
+    assert!(rt; silent.fits(&frame_of(511, 0)));
+    assert!(rt; !silent.fits(&frame_of(512, 0)));
+    Ok(())
+}
+
+#[test]
+fn a_write_fails_in_the_second_frame(rt: HostRuntime) -> Result<(), Fail> {
+    let mut silence = MemSink::new(rt.alloc(), 4096, 500, &[])?;
+    assert_eq!(rt; write_silence(&HIGHEST, 2, &mut silence), Ok(()));
+
+    // The first frame has 1044 bytes, and is given with the second one's push.
+    let mut sink = MemSink::new(rt.alloc(), 1054, 500, &[])?;
+    let mut writer = FrameWriter::new(HIGHEST);
+    let frame = frame_of(0, 0);
+    assert_eq!(rt; push_fitting(&rt, &mut writer, &frame, &mut sink), Ok(()));
+    assert_eq!(rt; sink.bytes().len(), 0);
+    assert_eq!(rt; push_fitting(&rt, &mut writer, &frame, &mut sink), Ok(()));
+    assert_eq!(rt; sink.bytes().len(), 1044);
+    assert_eq!(rt;
+        push_fitting(&rt, &mut writer, &frame, &mut sink),
+        Err(WriteFault)
+    );
+    assert!(rt; writer.failed());
+    assert_eq!(rt; Some(sink.bytes()), silence.bytes().get(..1054));
+    Ok(())
+}
+
+#[test]
+fn a_finished_writer_has_ended(rt: HostRuntime) -> Result<(), Fail> {
+    let mut sink = MemSink::new(rt.alloc(), 4096, 500, &[])?;
+    let mut writer = FrameWriter::new(COMMON);
+    assert!(rt; !writer.failed());
+    assert_eq!(rt; writer.finish(&mut sink), Ok(()));
+    assert!(rt; writer.failed());
+    assert_eq!(rt; sink.bytes().len(), 0);
     Ok(())
 }
