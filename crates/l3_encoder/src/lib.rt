@@ -1,0 +1,17 @@
+//! A WAV file from a source -> its MP3 stream at a sink.
+//!
+//! Before: `l3_wav`, which reads heads and samples; `l3_commit`, which chooses frames; `l3_frames`, which writes them.
+//! After: the program.
+#![tactic(auto)]
+
+mod alone;
+mod input;
+mod laws;
+mod stream;
+
+pub use alone::encode_alone;
+pub use l3_commit::{EncodeFault, Report};
+pub use laws::zeros_encode_to_silence;
+
+#[cfg(test)]
+mod tests;
