@@ -19,7 +19,7 @@ use Rattle.l3_stream.proofs.Packing.{packed-append}
 use Rattle.l3_stream.proofs.Side.{side-length}
 use Rattle.l3_stream.proofs.Tape.{slots-suc, start_within}
 use Rattle.l3_frames.specs.Silence.{begin_of, silent_frame, silence_of}
-use Rattle.l3_frames.proofs.FieldLemmas.{packed-zeros}
+use Rattle.l3_frames.proofs.PackingLemmas.{packed-zeros}
 use Rattle.l3_frames.proofs.SlotLemmas.{slot_range, slots-spread}
 use Rattle.l3_commit.specs.Encoding.{frames_for, spectra_of, frames_chosen}
 use Rattle.l3_encoder.specs.Silent.{AreSilent, ZerosEncodeToSilence}

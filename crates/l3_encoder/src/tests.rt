@@ -9,17 +9,40 @@ use std::marker::Brand;
 use std::sync::ledger::{Blank, Ledger};
 use std::test::Fail;
 
-// A file of one channel at 44100 Hz with no samples, and one with a sample of 0.
-const EMPTY: [u8; 44] =
-    *b"RIFF\x24\0\0\0WAVEfmt \x10\0\0\0\x01\0\x01\0\x44\xAC\0\0\x88\x58\x01\0\x02\0\x10\0data\0\0\0\0";
-const ONE_ZERO: [u8; 46] =
-    *b"RIFF\x26\0\0\0WAVEfmt \x10\0\0\0\x01\0\x01\0\x44\xAC\0\0\x88\x58\x01\0\x02\0\x10\0data\x02\0\0\0\0\0";
+// Files up to the size of their data, one channel at 44100 Hz and two at 48000.
+const MONO: [u8; 40] =
+    *b"RIFF\x24\0\0\0WAVEfmt \x10\0\0\0\x01\0\x01\0\x44\xAC\0\0\x88\x58\x01\0\x02\0\x10\0data";
 
-// What the encoder answers at 128 kbit/s, and a sink of so much room with what it took. This read fails.
+const STEREO: [u8; 40] =
+    *b"RIFF\x24\0\0\0WAVEfmt \x10\0\0\0\x01\0\x02\0\x80\xBB\0\0\0\xEE\x02\0\x04\0\x10\0data";
+
+// A file that begins so, with so many bytes of data, all of them 0.
+fn zeros(alloc: Global, front: &[u8], size: u32) -> Result<Vec<u8>, AllocError> {
+    let mut bytes = Vec::new(alloc);
+    bytes.extend_from_slice(front)?;
+    bytes.extend_from_slice(&size.to_le_bytes())?;
+    for _ in 0..size {
+        bytes.push(0)?;
+    }
+    Ok(bytes)
+}
+
+// Whether these bytes stand at each of these places.
+fn stand(bytes: &[u8], fronts: &[(usize, [u8; 6])]) -> bool {
+    for (at, front) in fronts {
+        if !bytes.get(*at..).unwrap_or(&[]).starts_with(front) {
+            return false;
+        }
+    }
+    true
+}
+
+// What the encoder answers, and a sink of so much room with what it took. This read fails.
 fn encoded<L: Ledger + Send>(
     blank: Blank,
     alloc: Global,
     bytes: &[u8],
+    rate: Rate,
     fails: u64,
     room: usize,
 ) -> Result<(Result<Report, EncodeFault>, MemSink), AllocError>
@@ -30,52 +53,133 @@ fn encoded<L: Ledger + Send>(
     let mut source = MemSource::new(alloc, bytes, 100, &[fails])?;
     let mut sink = MemSink::new(alloc, room, 300, &[])?;
     let mut steps: Steps<L> = Steps::start(blank);
-    let answer = encode_alone(alloc, Rate::K128, &mut source, &mut sink, &mut steps);
+    let answer = encode_alone(alloc, rate, &mut source, &mut sink, &mut steps);
     Ok((answer, sink))
 }
 
-// The stream of one sample of 0: two frames, of which the second begins 396 bytes before its slot.
-fn stream_of_one_zero() -> [u8; 835] {
-    let mut stream = [0; 835];
-    stream[..4].copy_from_slice(&[0xFF, 0xFB, 0x90, 0xC0]);
-    stream[417..423].copy_from_slice(&[0xFF, 0xFB, 0x92, 0xC0, 0xC6, 0x00]);
-    stream
+// An answer of so many frames, each count of a gain made anew.
+fn report(frames: u32, tried: u64) -> Result<Report, EncodeFault> {
+    Ok(Report {
+        frames,
+        tried,
+        made: tried,
+    })
 }
 
 #[test]
-fn streams_of_files(rt: HostRuntime) -> Result<(), Fail> {
-    let stream = stream_of_one_zero();
-    for (bytes, frames, tried, length) in [
-        (EMPTY.as_slice(), 0, 0, 0),
-        (ONE_ZERO.as_slice(), 2, 4, 835),
-    ] {
-        let (answer, sink) =
-            encoded::<Brand>(Blank::new(1), rt.alloc(), bytes, 1000, 10000)?;
-        let report = Report {
-            frames,
-            tried,
-            made: tried,
-        };
-        assert_eq!(rt; answer, Ok(report));
-        assert_eq!(rt; Some(sink.bytes()), stream.get(..length));
-    }
+fn no_samples(rt: HostRuntime) -> Result<(), Fail> {
+    let bytes = zeros(rt.alloc(), &MONO, 0)?;
+    let (answer, sink) = encoded::<Brand>(
+        Blank::new(1),
+        rt.alloc(),
+        &bytes,
+        Rate::K128,
+        1000,
+        10000,
+    )?;
+    assert_eq!(rt; answer, report(0, 0));
+    assert_eq!(rt; sink.bytes().len(), 0);
     Ok(())
 }
 
 #[test]
-fn faults(rt: HostRuntime) -> Result<(), Fail> {
-    let stream = stream_of_one_zero();
+fn zeros_over_two_frames(rt: HostRuntime) -> Result<(), Fail> {
+    let bytes = zeros(rt.alloc(), &MONO, 2306)?;
+    let (answer, sink) = encoded::<Brand>(
+        Blank::new(1),
+        rt.alloc(),
+        &bytes,
+        Rate::K128,
+        1000,
+        10000,
+    )?;
+    assert_eq!(rt; answer, report(3, 6));
+    assert_eq!(rt; sink.bytes().len(), 417 + 418 + 418);
+    let fronts = [
+        (0, [0xFF, 0xFB, 0x90, 0xC0, 0x00, 0x00]),
+        (417, [0xFF, 0xFB, 0x92, 0xC0, 0xC6, 0x00]),
+        (835, [0xFF, 0xFB, 0x92, 0xC0, 0xFF, 0x80]),
+    ];
+    assert!(rt; stand(sink.bytes(), &fronts));
+    Ok(())
+}
+
+#[test]
+fn no_reservoir_at_320_kbit(rt: HostRuntime) -> Result<(), Fail> {
+    let bytes = zeros(rt.alloc(), &MONO, 2)?;
+    let (answer, sink) = encoded::<Brand>(
+        Blank::new(1),
+        rt.alloc(),
+        &bytes,
+        Rate::K320,
+        1000,
+        10000,
+    )?;
+    assert_eq!(rt; answer, report(2, 4));
+    assert_eq!(rt; sink.bytes().len(), 1044 + 1045);
+    let fronts = [
+        (0, [0xFF, 0xFB, 0xE0, 0xC0, 0x00, 0x00]),
+        (1044, [0xFF, 0xFB, 0xE2, 0xC0, 0x00, 0x00]),
+    ];
+    assert!(rt; stand(sink.bytes(), &fronts));
+    Ok(())
+}
+
+#[test]
+fn reservoir_fills_at_32_kbit(rt: HostRuntime) -> Result<(), Fail> {
+    let bytes = zeros(rt.alloc(), &STEREO, 46080)?;
+    let (answer, sink) = encoded::<Brand>(
+        Blank::new(1),
+        rt.alloc(),
+        &bytes,
+        Rate::K32,
+        1000,
+        10000,
+    )?;
+    assert_eq!(rt; answer, report(11, 44));
+    assert_eq!(rt; sink.bytes().len(), 11 * 96);
+    let fronts = [
+        (0, [0xFF, 0xFB, 0x14, 0x00, 0x00, 0x00]),
+        (96, [0xFF, 0xFB, 0x14, 0x00, 0x1E, 0x00]),
+        (768, [0xFF, 0xFB, 0x14, 0x00, 0xF0, 0x00]),
+        (864, [0xFF, 0xFB, 0x14, 0x00, 0xFF, 0x80]),
+        (960, [0xFF, 0xFB, 0x14, 0x00, 0xFF, 0x80]),
+    ];
+    assert!(rt; stand(sink.bytes(), &fronts));
+    Ok(())
+}
+
+#[test]
+fn one_zero_sample_and_faults(rt: HostRuntime) -> Result<(), Fail> {
+    let mut stream = [0; 835];
+    stream[..4].copy_from_slice(&[0xFF, 0xFB, 0x90, 0xC0]);
+    stream[417..423].copy_from_slice(&[0xFF, 0xFB, 0x92, 0xC0, 0xC6, 0x00]);
+    let whole = zeros(rt.alloc(), &MONO, 2)?;
 
     // The file cut to this length, the read that fails, room in the sink, the answer, and how many bytes were written.
-    for (there, fails, room, fault, written) in [
-        (11, 1000, 10000, EncodeFault::Wav(WavFault::HeaderEnds), 0),
-        (46, 0, 10000, EncodeFault::Read, 0),
-        (46, 4, 10000, EncodeFault::Read, 0),
-        (46, 1000, 100, EncodeFault::Write, 100),
+    for (there, fails, room, wanted, written) in [
+        (46, 1000, 10000, report(2, 4), 835),
+        (
+            11,
+            1000,
+            10000,
+            Err(EncodeFault::Wav(WavFault::HeaderEnds)),
+            0,
+        ),
+        (46, 0, 10000, Err(EncodeFault::Read), 0),
+        (46, 4, 10000, Err(EncodeFault::Read), 0),
+        (46, 1000, 100, Err(EncodeFault::Write), 100),
     ] {
-        let bytes = ONE_ZERO.get(..there).unwrap_or(&[]);
-        let (answer, sink) = encoded::<Brand>(Blank::new(1), rt.alloc(), bytes, fails, room)?;
-        assert_eq!(rt; answer, Err(fault));
+        let bytes = whole.as_slice().get(..there).unwrap_or(&[]);
+        let (answer, sink) = encoded::<Brand>(
+            Blank::new(1),
+            rt.alloc(),
+            bytes,
+            Rate::K128,
+            fails,
+            room,
+        )?;
+        assert_eq!(rt; answer, wanted);
         assert_eq!(rt; Some(sink.bytes()), stream.get(..written));
     }
     Ok(())

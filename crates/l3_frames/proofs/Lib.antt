@@ -1,5 +1,4 @@
-pub mod FieldLemmas
-pub mod SilenceLemmas
+pub mod PackingLemmas
 pub mod SlotLemmas
 pub mod JoinedLemmas
 pub mod TapeLemmas

@@ -14,7 +14,7 @@ use Rattle.l3_stream.specs.Frames.{code_bits}
 use Rattle.l3_stream.specs.Tape.{start_of, end_of, FitsAt, FramesFit, tape_from}
 use Rattle.l3_frames.specs.Writing.{open_from}
 use Rattle.l3_frames.specs.Laying.{laid_over}
-use Rattle.l3_frames.proofs.FieldLemmas.{packed-bits_of-append}
+use Rattle.l3_frames.proofs.PackingLemmas.{packed-bits_of-append}
 
 pub start-is : (st : Settings) (n begin : ℕ) → start_of st n begin ≡ 8 * (slots_before st n - begin)
 unfolding start_of

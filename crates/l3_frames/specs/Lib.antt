@@ -1,4 +1,3 @@
-pub mod Frames
 pub mod Silence
 pub mod Writing
 pub mod Laying

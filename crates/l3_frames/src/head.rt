@@ -1,6 +1,6 @@
 //! Header and side information of a frame, as the first bytes of a row of 36.
 
-ghost use Rattle.std.specs.Prelude.{◌≡◌, ◌≤◌, ◌^◌, ◌++◌, length, take};
+ghost use Rattle.std.specs.Prelude.{[], ◌≡◌, ◌≤◌, ◌^◌, ◌++◌, length, take};
 ghost use Rattle.l3_bits.specs.Bits.{bits_of, packed};
 ghost use Rattle.l3_stream.specs.Frames.{IsCoded};
 ghost use Rattle.l3_stream.specs.Tape.{head_of};
@@ -34,7 +34,9 @@ impl Model for Head {
 }
 
 impl Default for Head {
-    fn default() -> Head {
+    fn default() -> Head
+        ensures { result ≡ [] }
+    {
         Head {
             bytes: [0; HEAD_LIMIT],
             size: 0,

@@ -1,4 +1,4 @@
-//! Frames -> bytes at a sink: the writer of chosen frames, and the frames of silence.
+//! Frames -> bytes at a sink: the writer of chosen frames, and what the stream of silence is.
 //!
 //! The main data of a frame may begin in the slots of the frames before it (ISO/IEC 11172-3, 2.4, main_data_begin), so a frame is given
 //! once no later frame can reach into its slot; the bytes given are right whatever is pushed later.
@@ -7,16 +7,11 @@
 #![tactic(auto)]
 
 mod codes;
-mod frames;
 mod head;
-mod header;
 mod pending;
-mod silence;
 mod slots;
 mod writer;
 
-pub use frames::{FRAME_LIMIT, SAMPLE_LIMIT, frames_of};
-pub use silence::write_silence;
 pub use writer::FrameWriter;
 
 #[cfg(test)]

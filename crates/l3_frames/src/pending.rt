@@ -1,4 +1,4 @@
-//! The frames that are not given yet, in a ring of 12: heads, and the bytes of the tape in their slots.
+//! The frames that are not given yet: their heads, at most 10 at once, and the bytes of the tape in their slots.
 
 ghost use Rattle.std.specs.Prelude.{◌≡◌, ◌+◌, ◌-◌, ◌≤◌, ◌^◌, ◌++◌, [], false, length, drop, OnOk, OnErr};
 ghost use Rattle.l3_base.specs.Lengths.{slots_before};

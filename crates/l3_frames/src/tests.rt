@@ -1,6 +1,6 @@
 ghost use Rattle.std.specs.Prelude.{◌≡◌, ◌+◌, ◌≤◌, length};
 
-use crate::{FrameWriter, frames_of, write_silence};
+use crate::FrameWriter;
 use l3_base::{Channels, Rate, SampleRate, Settings, WriteFault};
 use l3_io::MemSink;
 use l3_stream::{ChosenFrame, QuadTable, Unit};
@@ -24,72 +24,6 @@ const HIGHEST: Settings = Settings {
     sample_rate: SampleRate::Hz44100,
     channels: Channels::Mono,
 };
-
-#[test]
-fn numbers_of_frames(rt: HostRuntime) {
-    for (samples, frames) in [(0, 0), (1, 2), (1152, 2), (1153, 3), (2147483647, 1864137)] {
-        assert_eq!(rt; frames_of(samples), frames, "of {samples} samples");
-    }
-}
-
-#[test]
-fn frames_of_silence(rt: HostRuntime) -> Result<(), Fail> {
-    // From this place on stand these bytes: the header of a frame, and its begin in the 9 bits after it.
-    let common = [
-        (0, [0xFF, 0xFB, 0x90, 0xC0, 0x00, 0x00]),
-        (417, [0xFF, 0xFB, 0x92, 0xC0, 0xC6, 0x00]),
-        (835, [0xFF, 0xFB, 0x92, 0xC0, 0xFF, 0x80]),
-    ];
-
-    // The begins are 0, 60 and so on up to 480, and then 511 twice.
-    let lowest = [
-        (0, [0xFF, 0xFB, 0x14, 0x00, 0x00, 0x00]),
-        (96, [0xFF, 0xFB, 0x14, 0x00, 0x1E, 0x00]),
-        (192, [0xFF, 0xFB, 0x14, 0x00, 0x3C, 0x00]),
-        (288, [0xFF, 0xFB, 0x14, 0x00, 0x5A, 0x00]),
-        (384, [0xFF, 0xFB, 0x14, 0x00, 0x78, 0x00]),
-        (480, [0xFF, 0xFB, 0x14, 0x00, 0x96, 0x00]),
-        (576, [0xFF, 0xFB, 0x14, 0x00, 0xB4, 0x00]),
-        (672, [0xFF, 0xFB, 0x14, 0x00, 0xD2, 0x00]),
-        (768, [0xFF, 0xFB, 0x14, 0x00, 0xF0, 0x00]),
-        (864, [0xFF, 0xFB, 0x14, 0x00, 0xFF, 0x80]),
-        (960, [0xFF, 0xFB, 0x14, 0x00, 0xFF, 0x80]),
-    ];
-    let highest = [
-        (0, [0xFF, 0xFB, 0xE0, 0xC0, 0x00, 0x00]),
-        (1044, [0xFF, 0xFB, 0xE2, 0xC0, 0x00, 0x00]),
-    ];
-    for (settings, frames, length, fronts) in [
-        (COMMON, 3, 1253, common.as_slice()),
-        (LOWEST, 11, 1056, lowest.as_slice()),
-        (HIGHEST, 2, 2089, highest.as_slice()),
-    ] {
-        let mut sink = MemSink::new(rt.alloc(), 4096, 500, &[])?;
-        assert_eq!(rt; write_silence(&settings, frames, &mut sink), Ok(()));
-        assert_eq!(rt; sink.bytes().len(), length);
-        for (at, front) in fronts {
-            let rest = sink.bytes().get(*at..).unwrap_or(&[]);
-            assert!(rt; rest.starts_with(front), "at {at} of {length} bytes");
-        }
-    }
-    Ok(())
-}
-
-#[test]
-fn a_sink_that_fails_has_a_front(rt: HostRuntime) -> Result<(), Fail> {
-    // A frame of 96 bytes and the header of the next one.
-    let mut stream = [0; 100];
-    stream[..4].copy_from_slice(&[0xFF, 0xFB, 0x14, 0x00]);
-    stream[96..].copy_from_slice(&[0xFF, 0xFB, 0x14, 0x00]);
-
-    // A sink of so much room in which this write fails takes so many bytes.
-    for (room, fails, taken) in [(100, 1000, 100), (4096, 2, 70)] {
-        let mut sink = MemSink::new(rt.alloc(), room, 64, &[fails])?;
-        assert_eq!(rt; write_silence(&LOWEST, 11, &mut sink), Err(WriteFault));
-        assert_eq!(rt; Some(sink.bytes()), stream.get(..taken));
-    }
-    Ok(())
-}
 
 // A unit of one pair of table 1, or of none where its first line is 0.
 fn unit_of(first: i16) -> Unit {
@@ -156,9 +90,21 @@ fn write_frames(
 }
 
 #[test]
-fn silent_frames_are_silence(rt: HostRuntime) -> Result<(), Fail> {
-    let common = [(0, 0), (396, 0), (511, 0)];
+fn silent_frames(rt: HostRuntime) -> Result<(), Fail> {
+    // From this place on stand these bytes: the header of a frame, and its begin in the 9 bits after it.
+    let common = [
+        (0, [0xFF, 0xFB, 0x90, 0xC0, 0x00, 0x00]),
+        (417, [0xFF, 0xFB, 0x92, 0xC0, 0xC6, 0x00]),
+        (835, [0xFF, 0xFB, 0x92, 0xC0, 0xFF, 0x80]),
+    ];
     let lowest = [
+        (0, [0xFF, 0xFB, 0x14, 0x00, 0x00, 0x00]),
+        (96, [0xFF, 0xFB, 0x14, 0x00, 0x1E, 0x00]),
+        (768, [0xFF, 0xFB, 0x14, 0x00, 0xF0, 0x00]),
+        (864, [0xFF, 0xFB, 0x14, 0x00, 0xFF, 0x80]),
+        (960, [0xFF, 0xFB, 0x14, 0x00, 0xFF, 0x80]),
+    ];
+    let begins = [
         (0, 0),
         (60, 0),
         (120, 0),
@@ -171,15 +117,22 @@ fn silent_frames_are_silence(rt: HostRuntime) -> Result<(), Fail> {
         (511, 0),
         (511, 0),
     ];
-    for (settings, count, frames) in [
-        (COMMON, 3, common.as_slice()),
-        (LOWEST, 11, lowest.as_slice()),
+    for (settings, frames, length, fronts) in [
+        (
+            COMMON,
+            [(0, 0), (396, 0), (511, 0)].as_slice(),
+            1253,
+            common.as_slice(),
+        ),
+        (LOWEST, begins.as_slice(), 1056, lowest.as_slice()),
     ] {
         let mut sink = MemSink::new(rt.alloc(), 4096, 500, &[])?;
         assert_eq!(rt; write_frames(&rt, settings, frames, &mut sink), Ok(()));
-        let mut silence = MemSink::new(rt.alloc(), 4096, 500, &[])?;
-        assert_eq!(rt; write_silence(&settings, count, &mut silence), Ok(()));
-        assert_eq!(rt; sink.bytes(), silence.bytes());
+        assert_eq!(rt; sink.bytes().len(), length);
+        for (at, front) in fronts {
+            let rest = sink.bytes().get(*at..).unwrap_or(&[]);
+            assert!(rt; rest.starts_with(front), "at {at} of {length} bytes");
+        }
     }
     Ok(())
 }
@@ -244,9 +197,6 @@ fn what_fits(rt: HostRuntime) -> Result<(), Fail> {
 
 #[test]
 fn a_write_fails_in_the_second_frame(rt: HostRuntime) -> Result<(), Fail> {
-    let mut silence = MemSink::new(rt.alloc(), 4096, 500, &[])?;
-    assert_eq!(rt; write_silence(&HIGHEST, 2, &mut silence), Ok(()));
-
     // The first frame has 1044 bytes, and is given with the second one's push.
     let mut sink = MemSink::new(rt.alloc(), 1054, 500, &[])?;
     let mut writer = FrameWriter::new(HIGHEST);
@@ -260,7 +210,10 @@ fn a_write_fails_in_the_second_frame(rt: HostRuntime) -> Result<(), Fail> {
         Err(WriteFault)
     );
     assert!(rt; writer.failed());
-    assert_eq!(rt; Some(sink.bytes()), silence.bytes().get(..1054));
+    assert_eq!(rt; sink.bytes().len(), 1054);
+    assert!(rt; sink.bytes().starts_with(&[0xFF, 0xFB, 0xE0, 0xC0, 0, 0]));
+    let second = [0xFF, 0xFB, 0xE2, 0xC0, 0, 0, 0, 0, 0, 0];
+    assert_eq!(rt; sink.bytes().get(1044..), Some(second.as_slice()));
     Ok(())
 }
 

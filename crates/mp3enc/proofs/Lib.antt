@@ -1,2 +1,2 @@
 pub mod StatusLemmas
-pub mod ZeroLemmas
+pub mod WordLemmas

@@ -9,13 +9,14 @@ use Rattle.l3_wav.specs.declared.head.WavHead.{WavHead}
 use Rattle.l3_wav.specs.declared.fault.WavFault.{WavFault}
 use Rattle.l3_wav.specs.declared.fault.WavFault.TheVariants.{NotRiff, HeaderEnds, NoFmtBeforeData, HeaderTooLong, UnsupportedFormat, UnsupportedChannels, UnsupportedRate, UnsupportedDepth, BadBlockAlign, Read}
 use Rattle.l3_wav.specs.Wav.{wav_of}
-use Rattle.mp3enc.specs.Encoding.{stream_of, rest_of}
+use Rattle.l3_base.specs.declared.rate.Rate.{Rate}
+use Rattle.l3_encoder.specs.Encoded.{encoding_in, rest_in}
 use Rattle.mp3enc.specs.declared.status.Status.{Status}
 use Rattle.mp3enc.specs.declared.status.Status.TheVariants as status
 use Rattle.mp3enc.specs.declared.ending.Ending.{Ending}
-use Rattle.mp3enc.specs.declared.ending.Ending.TheVariants.{Done, Usage, Refused, ReadFault, WriteFault, Unbuilt}
+use Rattle.mp3enc.specs.declared.ending.Ending.TheVariants.{Done, Usage, Refused, ReadFault, WriteFault, Memory}
 use Rattle.mp3enc.specs.Status.{status_of, refusal_of}
-use Rattle.mp3enc.specs.Program.{Explains, MayCome, IsRefused, IsUnbuilt, IsNamed}
+use Rattle.mp3enc.specs.Program.{Explains, MayCome, IsAccepted, IsRefused, IsNamed}
 
 IfSome-always : {X : Type 0} (o : Option X) (P : X → Type 0) → ((x : X) → P x) → IfSome o P
 IfSome-always None P h = tt
@@ -25,15 +26,9 @@ IfSome-from_and : {X : Type 0} (o : Option X) (P Q : X → Type 0) → IsSomeAnd
 IfSome-from_and None P Q p h = tt
 IfSome-from_and (Some x) P Q p h = h x p
 
--- a file whose head is refused has no stream
-no_stream : (bytes : List ℕ) (why : WavFault) (P : List ℕ → Type 0) → wav_of bytes ≡ Err why → IsSomeAnd (stream_of bytes) P → ⊥
-no_stream bytes why P is some = rw is at some
-
-no_stream_at_all : (bytes : List ℕ) (why : WavFault) → wav_of bytes ≡ Err why → IsSome (stream_of bytes) → ⊥
-no_stream_at_all bytes why is some = let bad = rw is at some in cc
-
-none_is_none : (o : Option (List ℕ)) → o ≡ None → IsSome o → ⊥
-none_is_none o none some = let bad = rw none at some in cc
+-- a file whose head is refused has no encoding
+no_stream : (rate : Rate) (bytes : List ℕ) (why : WavFault) (P : List ℕ → Type 0) → wav_of bytes ≡ Err why → IsSomeAnd (encoding_in rate bytes) P → ⊥
+no_stream rate bytes why P is some = rw is at some
 
 some_is : (s r : Status) → Some s ≡ Some r → s ≡ r
 some_is s r same = cc
@@ -48,17 +43,17 @@ same_fault read why because one other = cc
 not_both : (read : Result WavHead WavFault) (head : WavHead) (why : WavFault) → read ≡ Ok head → read ≡ Err why → ⊥
 not_both read head why one other = cc
 
-not_unbuilt : (why : WavFault) → refusal_of why ≡ status.Unbuilt → ⊥
-not_unbuilt NotRiff is = cc
-not_unbuilt HeaderEnds is = cc
-not_unbuilt NoFmtBeforeData is = cc
-not_unbuilt HeaderTooLong is = cc
-not_unbuilt UnsupportedFormat is = cc
-not_unbuilt UnsupportedChannels is = cc
-not_unbuilt UnsupportedRate is = cc
-not_unbuilt UnsupportedDepth is = cc
-not_unbuilt BadBlockAlign is = cc
-not_unbuilt Read is = cc
+not_memory : (why : WavFault) → refusal_of why ≡ status.Memory → ⊥
+not_memory NotRiff is = cc
+not_memory HeaderEnds is = cc
+not_memory NoFmtBeforeData is = cc
+not_memory HeaderTooLong is = cc
+not_memory UnsupportedFormat is = cc
+not_memory UnsupportedChannels is = cc
+not_memory UnsupportedRate is = cc
+not_memory UnsupportedDepth is = cc
+not_memory BadBlockAlign is = cc
+not_memory Read is = cc
 
 not_ok : (why : WavFault) → refusal_of why ≡ status.Ok → ⊥
 not_ok NotRiff is = cc
@@ -126,7 +121,7 @@ usage_is (Refused why) is = absurd (not_usage why (some_is (refusal_of why) stat
 usage_is Done is = cc
 usage_is ReadFault is = cc
 usage_is WriteFault is = cc
-usage_is Unbuilt is = cc
+usage_is Memory is = cc
 
 pub may_come : (e : Ending) → MayCome (status_of e)
 may_come (Refused why) = refusal_may_come why
@@ -134,139 +129,149 @@ may_come Done = tt
 may_come Usage = tt
 may_come ReadFault = tt
 may_come WriteFault = tt
-may_come Unbuilt = tt
+may_come Memory = tt
 
 module _ (left left_now : Option (List ℕ)) (old new : List ℕ → Type 0) (source_rose sink_rose untouched : Type 0) where
-  -- the words were refused, or the ending says what was done
-  abbrev pub Told : Ending → Type 0
-  Told e = ((e ≡ Usage) × untouched) ⊎ Explains e source_rose sink_rose untouched left left_now old new
+  -- the words were refused, or the ending says what was done at their rate
+  abbrev pub Told : Option Rate → Ending → Type 0
+  Told asked e = ((asked ≡ None) × (e ≡ Usage) × untouched) ⊎ ((rate : Rate) × (asked ≡ Some rate) × Explains rate e source_rose sink_rose untouched left left_now old new)
 
-  pub told : (e : Ending) (encode : Bool) → (e ≡ Usage ↔ encode ≡ false) → (e ≡ Usage → untouched) →
-      (encode ≡ true → Explains e source_rose sink_rose untouched left left_now old new) → Told e
-  told e true usage same explains = inr (explains refl)
-  told e false usage same explains = let is = usage.1 refl in inl (is, same is)
+  pub told : (asked : Option Rate) (e : Ending) → (e ≡ Usage ↔ asked ≡ None) → (e ≡ Usage → untouched) →
+      IfSome asked (λ rate. Explains rate e source_rose sink_rose untouched left left_now old new) → Told asked e
+  told (Some rate) e usage same explains = inr (rate, refl, explains)
+  told None e usage same explains = let is = usage.1 refl in inl (refl, is, same is)
 
   -- a status that refuses a head comes from an ending that does
-  pub refused_only : (s : Status) (e : Ending) → Told e → Some (status_of e) ≡ Some s → (s ≡ status.BadWav) ⊎ (s ≡ status.Unsupported) →
+  pub refused_only : (s : Status) (asked : Option Rate) (e : Ending) → Told asked e → Some (status_of e) ≡ Some s → (s ≡ status.BadWav) ⊎ (s ≡ status.Unsupported) →
       IfSome left (IsRefused s) × untouched
-  refused_only s (Refused why) (inl u) is which = let bad = u.0 in cc
-  refused_only s (Refused why) (inr e) is which = (IfSome_then left e.0 (λ bytes same. (why, same, some_is (refusal_of why) s is)), e.2)
-  refused_only s Done t is which = elim (is_refusal status.Ok s is which) [ inl bad ↦ cc | inr bad ↦ cc ]
-  refused_only s Usage t is which = elim (is_refusal status.Usage s is which) [ inl bad ↦ cc | inr bad ↦ cc ]
-  refused_only s ReadFault t is which = elim (is_refusal status.ReadFault s is which) [ inl bad ↦ cc | inr bad ↦ cc ]
-  refused_only s WriteFault t is which = elim (is_refusal status.WriteFault s is which) [ inl bad ↦ cc | inr bad ↦ cc ]
-  refused_only s Unbuilt t is which = elim (is_refusal status.Unbuilt s is which) [ inl bad ↦ cc | inr bad ↦ cc ]
+  refused_only s asked (Refused why) (inl u) is which = let bad = u.1 in cc
+  refused_only s asked (Refused why) (inr e) is which = (IfSome_then left e.2.0 (λ bytes same. (why, same, some_is (refusal_of why) s is)), e.2.2)
+  refused_only s asked Done t is which = elim (is_refusal status.Ok s is which) [ inl bad ↦ cc | inr bad ↦ cc ]
+  refused_only s asked Usage t is which = elim (is_refusal status.Usage s is which) [ inl bad ↦ cc | inr bad ↦ cc ]
+  refused_only s asked ReadFault t is which = elim (is_refusal status.ReadFault s is which) [ inl bad ↦ cc | inr bad ↦ cc ]
+  refused_only s asked WriteFault t is which = elim (is_refusal status.WriteFault s is which) [ inl bad ↦ cc | inr bad ↦ cc ]
+  refused_only s asked Memory t is which = elim (is_refusal status.Memory s is which) [ inl bad ↦ cc | inr bad ↦ cc ]
 
-  -- a head that is refused is answered so where no read failed
-  pub refused_there : (e : Ending) → Told e → (e ≡ Usage → ⊥) → (source_rose → ⊥) →
-      IfSome left (λ bytes. (why : WavFault) → wav_of bytes ≡ Err why → Some (status_of e) ≡ Some (refusal_of why))
-  refused_there e (inl u) other steady = absurd (other u.0)
-  refused_there Done (inr e) other steady = IfSome_then left e (λ bytes p why is. absurd (no_stream bytes why _ is p.0))
-  refused_there (Refused because) (inr e) other steady =
-      IfSome_then left e.0 (λ bytes same why is. ap (λ w. Some (refusal_of w)) (same_fault (wav_of bytes) because why same is))
-  refused_there ReadFault (inr e) other steady = absurd (steady e.0)
-  refused_there WriteFault (inr e) other steady = IfSome_then left e.1 (λ bytes p why is. absurd (no_stream bytes why _ is p))
-  refused_there Unbuilt (inr e) other steady = IfSome_then left e.0 (λ bytes p why is. absurd (not_both (wav_of bytes) p.0 why p.1 is))
-  refused_there Usage (inr e) other steady = absurd e
+  -- a head that is refused is answered so where no read failed, or there is no memory
+  pub refused_there : (asked : Option Rate) (e : Ending) → Told asked e → (e ≡ Usage → ⊥) → (source_rose → ⊥) →
+      IfSome left (λ bytes. (why : WavFault) → wav_of bytes ≡ Err why → (Some (status_of e) ≡ Some (refusal_of why)) ⊎ (Some (status_of e) ≡ Some status.Memory))
+  refused_there asked e (inl u) other steady = absurd (other u.1)
+  refused_there asked Done (inr e) other steady = IfSome_then left e.2 (λ bytes p why is. absurd (no_stream e.0 bytes why _ is p.0))
+  refused_there asked (Refused because) (inr e) other steady =
+      IfSome_then left e.2.0 (λ bytes same why is. inl (ap (λ w. Some (refusal_of w)) (same_fault (wav_of bytes) because why same is)))
+  refused_there asked ReadFault (inr e) other steady = absurd (steady e.2.0)
+  refused_there asked WriteFault (inr e) other steady = IfSome_then left e.2.1 (λ bytes p why is. absurd (no_stream e.0 bytes why _ is p))
+  refused_there asked Memory (inr e) other steady = IfSome-always left _ (λ bytes why is. inr refl)
+  refused_there asked Usage (inr e) other steady = absurd e.2
 
-  -- and nothing is written then
-  pub refused_untouched : (e : Ending) → Told e → IfSome left (λ bytes. (why : WavFault) → wav_of bytes ≡ Err why → untouched)
-  refused_untouched e (inl u) = IfSome-always left _ (λ bytes why is. u.1)
-  refused_untouched Done (inr e) = IfSome_then left e (λ bytes p why is. absurd (no_stream bytes why _ is p.0))
-  refused_untouched (Refused because) (inr e) = IfSome-always left _ (λ bytes why is. e.2)
-  refused_untouched ReadFault (inr e) = IfSome-always left _ (λ bytes why is. e.1)
-  refused_untouched WriteFault (inr e) = IfSome_then left e.1 (λ bytes p why is. absurd (no_stream bytes why _ is p))
-  refused_untouched Unbuilt (inr e) = IfSome-always left _ (λ bytes why is. e.1)
-  refused_untouched Usage (inr e) = absurd e
+  -- where a head is refused nothing is written
+  pub refused_untouched : (asked : Option Rate) (e : Ending) → Told asked e → IfSome left (λ bytes. (why : WavFault) → wav_of bytes ≡ Err why → untouched)
+  refused_untouched asked e (inl u) = IfSome-always left _ (λ bytes why is. u.2)
+  refused_untouched asked Done (inr e) = IfSome_then left e.2 (λ bytes p why is. absurd (no_stream e.0 bytes why _ is p.0))
+  refused_untouched asked (Refused because) (inr e) = IfSome-always left _ (λ bytes why is. e.2.2)
+  refused_untouched asked ReadFault (inr e) = IfSome-always left _ (λ bytes why is. e.2.1)
+  refused_untouched asked WriteFault (inr e) = IfSome_then left e.2.1 (λ bytes p why is. absurd (no_stream e.0 bytes why _ is p))
+  refused_untouched asked Memory (inr e) = IfSome-always left _ (λ bytes why is. e.2)
+  refused_untouched asked Usage (inr e) = absurd e.2
 
-  pub unbuilt_only : (e : Ending) → Told e → Some (status_of e) ≡ Some status.Unbuilt → IfSome left IsUnbuilt
-  unbuilt_only Unbuilt (inl u) is = let bad = u.0 in cc
-  unbuilt_only Unbuilt (inr e) is = e.0
-  unbuilt_only (Refused why) t is = absurd (not_unbuilt why (some_is (refusal_of why) status.Unbuilt is))
-  unbuilt_only Done t is = cc
-  unbuilt_only Usage t is = cc
-  unbuilt_only ReadFault t is = cc
-  unbuilt_only WriteFault t is = cc
+  -- want of memory leaves the sink as it was
+  pub memory_untouched : (asked : Option Rate) (e : Ending) → Told asked e → Some (status_of e) ≡ Some status.Memory → untouched
+  memory_untouched asked Memory (inl u) is = u.2
+  memory_untouched asked Memory (inr e) is = e.2
+  memory_untouched asked (Refused why) t is = absurd (not_memory why (some_is (refusal_of why) status.Memory is))
+  memory_untouched asked Done t is = cc
+  memory_untouched asked Usage t is = cc
+  memory_untouched asked ReadFault t is = cc
+  memory_untouched asked WriteFault t is = cc
 
-  -- samples that are not built are answered so where no read failed
-  pub unbuilt_there : (e : Ending) → Told e → (e ≡ Usage → ⊥) → (source_rose → ⊥) → IfSome left (λ bytes. IsUnbuilt bytes → Some (status_of e) ≡ Some status.Unbuilt)
-  unbuilt_there e (inl u) other steady = absurd (other u.0)
-  unbuilt_there Done (inr e) other steady = IfSome_then left e (λ bytes p none. let bad = rw none.2 at p.0 in absurd bad)
-  unbuilt_there (Refused why) (inr e) other steady = IfSome_then left e.0 (λ bytes same none. absurd (not_both (wav_of bytes) none.0 why none.1 same))
-  unbuilt_there ReadFault (inr e) other steady = absurd (steady e.0)
-  unbuilt_there WriteFault (inr e) other steady = IfSome_then left e.1 (λ bytes p none. let bad = rw none.2 at p in absurd bad)
-  unbuilt_there Unbuilt (inr e) other steady = IfSome-always left _ (λ bytes none. refl)
-  unbuilt_there Usage (inr e) other steady = absurd e
+  -- at success the sink took all of the encoding, and what follows the data is left
+  pub done : (asked : Option Rate) (e : Ending) → Told asked e → Some (status_of e) ≡ Some status.Ok →
+      IsSomeAnd asked (λ rate. IfSome left (λ bytes. IsSomeAnd (encoding_in rate bytes) (λ stream. Takes old new stream) × (left_now ≡ Some (rest_in bytes))))
+  done asked Done (inl u) is = let bad = u.1 in cc
+  done asked Done (inr e) is = rw e.1 e.2
+  done asked (Refused why) t is = absurd (not_ok why (some_is (refusal_of why) status.Ok is))
+  done asked Usage t is = cc
+  done asked ReadFault t is = cc
+  done asked WriteFault t is = cc
+  done asked Memory t is = cc
 
-  pub done : (e : Ending) → Told e → Some (status_of e) ≡ Some status.Ok →
-      IfSome left (λ bytes. IsSomeAnd (stream_of bytes) (λ stream. Takes old new stream) × (left_now ≡ Some (rest_of bytes)))
-  done Done (inl u) is = let bad = u.0 in cc
-  done Done (inr e) is = e
-  done (Refused why) t is = absurd (not_ok why (some_is (refusal_of why) status.Ok is))
-  done Usage t is = cc
-  done ReadFault t is = cc
-  done WriteFault t is = cc
-  done Unbuilt t is = cc
+  whole_of : (asked : Option Rate) →
+      IsSomeAnd asked (λ rate. IfSome left (λ bytes. IsSomeAnd (encoding_in rate bytes) (λ stream. Takes old new stream) × (left_now ≡ Some (rest_in bytes)))) →
+      IsSomeAnd asked (λ rate. IfSome left (λ bytes. IsSomeAnd (encoding_in rate bytes) (λ stream. Takes old new stream)))
+  whole_of (Some rate) p = IfSome_then left p (λ bytes both. both.0)
+  whole_of None p = p
 
-  front_of_none : Stands old new → IfSome left (λ bytes. IfSome (stream_of bytes) (λ stream. TakesPrefix old new stream))
-  front_of_none stands = IfSome-always left _ (λ bytes. IfSome-always (stream_of bytes) _ (λ stream. TakesPrefix-none old new stream stands))
+  rest_of : (asked : Option Rate) →
+      IsSomeAnd asked (λ rate. IfSome left (λ bytes. IsSomeAnd (encoding_in rate bytes) (λ stream. Takes old new stream) × (left_now ≡ Some (rest_in bytes)))) →
+      IfSome left (λ bytes. left_now ≡ Some (rest_in bytes))
+  rest_of (Some rate) p = IfSome_then left p (λ bytes both. both.1)
+  rest_of None p = absurd p
 
-  pub written : (untouched → Stands old new) → (e : Ending) → Told e → IfSome left (λ bytes. IfSome (stream_of bytes) (λ stream. TakesPrefix old new stream))
-  written same e (inl u) = front_of_none (same u.1)
-  written same Done (inr e) = IfSome_then left e (λ bytes p. IfSome-from_and (stream_of bytes) _ _ p.0 (λ stream takes. TakesPrefix-whole old new stream takes))
-  written same (Refused why) (inr e) = front_of_none (same e.2)
-  written same ReadFault (inr e) = front_of_none (same e.1)
-  written same WriteFault (inr e) = IfSome_then left e.1 (λ bytes p. IfSome-from_and (stream_of bytes) _ _ p (λ stream takes. takes))
-  written same Unbuilt (inr e) = front_of_none (same e.1)
-  written same Usage (inr e) = absurd e
+  pub whole : (asked : Option Rate) (e : Ending) → Told asked e → Some (status_of e) ≡ Some status.Ok →
+      IsSomeAnd asked (λ rate. IfSome left (λ bytes. IsSomeAnd (encoding_in rate bytes) (λ stream. Takes old new stream)))
+  whole asked e t is = whole_of asked (done asked e t is)
 
-  pub named : (e : Ending) → Told e → IfSome left (IsNamed e)
-  named (Refused why) (inl u) = let bad = u.0 in cc
-  named (Refused why) (inr e) = e.0
-  named Done t = IfSome-always left _ (λ bytes. tt)
-  named Usage t = IfSome-always left _ (λ bytes. tt)
-  named ReadFault t = IfSome-always left _ (λ bytes. tt)
-  named WriteFault t = IfSome-always left _ (λ bytes. tt)
-  named Unbuilt t = IfSome-always left _ (λ bytes. tt)
+  pub rest : (asked : Option Rate) (e : Ending) → Told asked e → Some (status_of e) ≡ Some status.Ok → IfSome left (λ bytes. left_now ≡ Some (rest_in bytes))
+  rest asked e t is = rest_of asked (done asked e t is)
 
-  pub read_fault : (e : Ending) → Told e → Some (status_of e) ≡ Some status.ReadFault → source_rose × untouched
-  read_fault ReadFault (inl u) is = let bad = u.0 in cc
-  read_fault ReadFault (inr e) is = e
-  read_fault (Refused why) (inl u) is = let bad = u.0 in cc
-  read_fault (Refused why) (inr e) is = absurd (e.1 (read_is_read why (some_is (refusal_of why) status.ReadFault is)))
-  read_fault Done t is = cc
-  read_fault Usage t is = cc
-  read_fault WriteFault t is = cc
-  read_fault Unbuilt t is = cc
+  front_of_none : (rate : Rate) → Stands old new → IfSome left (λ bytes. IfSome (encoding_in rate bytes) (λ stream. TakesPrefix old new stream))
+  front_of_none rate stands = IfSome-always left _ (λ bytes. IfSome-always (encoding_in rate bytes) _ (λ stream. TakesPrefix-none old new stream stands))
 
-  pub write_fault : (e : Ending) → Told e → Some (status_of e) ≡ Some status.WriteFault → sink_rose
-  write_fault WriteFault (inl u) is = let bad = u.0 in cc
-  write_fault WriteFault (inr e) is = e.0
-  write_fault (Refused why) t is = absurd (not_write why (some_is (refusal_of why) status.WriteFault is))
-  write_fault Done t is = cc
-  write_fault Usage t is = cc
-  write_fault ReadFault t is = cc
-  write_fault Unbuilt t is = cc
+  -- whatever the ending, a front of the encoding was written
+  front_of : (untouched → Stands old new) → (rate : Rate) (e : Ending) → Explains rate e source_rose sink_rose untouched left left_now old new →
+      IfSome left (λ bytes. IfSome (encoding_in rate bytes) (λ stream. TakesPrefix old new stream))
+  front_of same rate Done e =
+      IfSome_then left e (λ bytes p. IfSome-from_and (encoding_in rate bytes) _ _ p.0 (λ stream takes. TakesPrefix-whole old new stream takes))
+  front_of same rate (Refused why) e = front_of_none rate (same e.2)
+  front_of same rate ReadFault e = front_of_none rate (same e.1)
+  front_of same rate WriteFault e = IfSome_then left e.1 (λ bytes p. IfSome-from_and (encoding_in rate bytes) _ _ p (λ stream takes. takes))
+  front_of same rate Memory e = front_of_none rate (same e)
+  front_of same rate Usage e = absurd e
 
-  -- a file that has a stream is encoded where nothing failed
-  pub complete : (e : Ending) → Told e → (e ≡ Usage → ⊥) → (source_rose → ⊥) → (sink_rose → ⊥) →
-      IfSome left (λ bytes. IsSome (stream_of bytes) → Some (status_of e) ≡ Some status.Ok)
-  complete e (inl u) other steady steady_sink = absurd (other u.0)
-  complete Done (inr e) other steady steady_sink = IfSome-always left _ (λ bytes some. refl)
-  complete (Refused why) (inr e) other steady steady_sink = IfSome_then left e.0 (λ bytes same some. absurd (no_stream_at_all bytes why same some))
-  complete ReadFault (inr e) other steady steady_sink = absurd (steady e.0)
-  complete WriteFault (inr e) other steady steady_sink = absurd (steady_sink e.0)
-  complete Unbuilt (inr e) other steady steady_sink = IfSome_then left e.0 (λ bytes none some. absurd (none_is_none (stream_of bytes) none.2 some))
-  complete Usage (inr e) other steady steady_sink = absurd e
+  pub written : (untouched → Stands old new) → (asked : Option Rate) (e : Ending) → Told asked e →
+      IfSome asked (λ rate. IfSome left (λ bytes. IfSome (encoding_in rate bytes) (λ stream. TakesPrefix old new stream)))
+  written same asked e (inl u) = rw u.0 tt
+  written same asked e (inr t) = rw t.1 (front_of same t.0 e t.2)
 
-  pub unbuilt_untouched : (e : Ending) → Told e → Some (status_of e) ≡ Some status.Unbuilt → untouched
-  unbuilt_untouched Unbuilt (inl u) is = u.1
-  unbuilt_untouched Unbuilt (inr e) is = e.1
-  unbuilt_untouched (Refused why) t is = absurd (not_unbuilt why (some_is (refusal_of why) status.Unbuilt is))
-  unbuilt_untouched Done t is = cc
-  unbuilt_untouched Usage t is = cc
-  unbuilt_untouched ReadFault t is = cc
-  unbuilt_untouched WriteFault t is = cc
+  pub named : (asked : Option Rate) (e : Ending) → Told asked e → IfSome left (IsNamed e)
+  named asked (Refused why) (inl u) = let bad = u.1 in cc
+  named asked (Refused why) (inr e) = e.2.0
+  named asked Done t = IfSome-always left _ (λ bytes. tt)
+  named asked Usage t = IfSome-always left _ (λ bytes. tt)
+  named asked ReadFault t = IfSome-always left _ (λ bytes. tt)
+  named asked WriteFault t = IfSome-always left _ (λ bytes. tt)
+  named asked Memory t = IfSome-always left _ (λ bytes. tt)
+
+  pub read_fault : (asked : Option Rate) (e : Ending) → Told asked e → Some (status_of e) ≡ Some status.ReadFault → source_rose × untouched
+  read_fault asked ReadFault (inl u) is = let bad = u.1 in cc
+  read_fault asked ReadFault (inr e) is = e.2
+  read_fault asked (Refused why) (inl u) is = let bad = u.1 in cc
+  read_fault asked (Refused why) (inr e) is = absurd (e.2.1 (read_is_read why (some_is (refusal_of why) status.ReadFault is)))
+  read_fault asked Done t is = cc
+  read_fault asked Usage t is = cc
+  read_fault asked WriteFault t is = cc
+  read_fault asked Memory t is = cc
+
+  pub write_fault : (asked : Option Rate) (e : Ending) → Told asked e → Some (status_of e) ≡ Some status.WriteFault → sink_rose
+  write_fault asked WriteFault (inl u) is = let bad = u.1 in cc
+  write_fault asked WriteFault (inr e) is = e.2.0
+  write_fault asked (Refused why) t is = absurd (not_write why (some_is (refusal_of why) status.WriteFault is))
+  write_fault asked Done t is = cc
+  write_fault asked Usage t is = cc
+  write_fault asked ReadFault t is = cc
+  write_fault asked Memory t is = cc
+
+  -- an accepted file is encoded where nothing failed, or there is no memory
+  pub complete : (asked : Option Rate) (e : Ending) → Told asked e → (e ≡ Usage → ⊥) → (source_rose → ⊥) → (sink_rose → ⊥) →
+      IfSome left (λ bytes. IsAccepted bytes → (Some (status_of e) ≡ Some status.Ok) ⊎ (Some (status_of e) ≡ Some status.Memory))
+  complete asked e (inl u) other steady steady_sink = absurd (other u.1)
+  complete asked Done (inr e) other steady steady_sink = IfSome-always left _ (λ bytes accepted. inl refl)
+  complete asked (Refused why) (inr e) other steady steady_sink =
+      IfSome_then left e.2.0 (λ bytes same accepted. absurd (not_both (wav_of bytes) accepted.0 why accepted.1 same))
+  complete asked ReadFault (inr e) other steady steady_sink = absurd (steady e.2.0)
+  complete asked WriteFault (inr e) other steady steady_sink = absurd (steady_sink e.2.0)
+  complete asked Memory (inr e) other steady steady_sink = IfSome-always left _ (λ bytes accepted. inr refl)
+  complete asked Usage (inr e) other steady steady_sink = absurd e.2
 
 -- what was written is whole where the count of faults was steady
 pub whole_if_steady : {T E : Type 0} (old new : List ℕ → Type 0) (before now : ℕ) (result : Result T E) (text : List ℕ) → IsSteady before now →

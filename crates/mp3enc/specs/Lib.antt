@@ -1,4 +1,4 @@
-pub mod Encoding
 pub mod Program
 pub mod Status
 pub mod Words
+pub use Rattle.l3_encoder.specs.Encoded

@@ -17,7 +17,6 @@ number_of status.Unsupported = 4
 number_of status.ReadFault = 5
 number_of status.WriteFault = 6
 number_of status.BadStream = 7
-number_of status.Unbuilt = 8
 
 -- the status of a head that is refused: no WAV file, or one of a form that is never encoded
 abbrev pub refusal_of : WavFault → Status
@@ -39,7 +38,7 @@ status_of ending.Usage = status.Usage
 status_of (ending.Refused why) = refusal_of why
 status_of ending.ReadFault = status.ReadFault
 status_of ending.WriteFault = status.WriteFault
-status_of ending.Unbuilt = status.Unbuilt
+status_of ending.Memory = status.Memory
 
 -- a line of text
 abbrev pub line : List ℕ → List ℕ
@@ -65,4 +64,4 @@ text_of ending.Usage = line (codes "mp3enc: usage: mp3enc encode, check or demo 
 text_of (ending.Refused why) = refusal_text why
 text_of ending.ReadFault = line (codes "mp3enc: read fault")
 text_of ending.WriteFault = line (codes "mp3enc: write fault")
-text_of ending.Unbuilt = line (codes "mp3enc: unbuilt")
+text_of ending.Memory = line (codes "mp3enc: out of memory")

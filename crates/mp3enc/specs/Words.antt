@@ -1,8 +1,38 @@
--- The words of the command line that are taken.
-use Rattle.std.specs.Prelude.{List, ℕ, Bool, false, [], ◌∷◌, codes}
+-- The words of the command line that are taken, and the rate that they ask for.
+use Rattle.std.specs.Prelude.{List, ℕ, ◌+◌, ◌-◌, ◌*◌, ◌==◌, ◌&&◌, Bool, [], ◌∷◌, Option, Some, None, length, fold, find, nat_le, codes, if◌then◌else◌}
+use Rattle.std.specs.List.{list_all}
+use Rattle.std.specs.Char.{is_ascii_digit}
 use Rattle.std.specs.Str.{bytes_eq}
+use Rattle.l3_base.specs.declared.rate.Rate.{Rate}
+use Rattle.l3_base.specs.declared.rate.Rate.TheVariants.{K32, K40, K48, K56, K64, K80, K96, K112, K128, K160, K192, K224, K256, K320}
+use Rattle.l3_base.specs.Rates.{kbits_of}
 
--- they are the one word `encode`
-abbrev pub is_encode : List (List ℕ) → Bool
-is_encode (word ∷ []) = bytes_eq word (codes "encode")
-is_encode words = false
+-- a number with one more decimal digit behind it; the digit 0 is the byte 48
+abbrev pub with_digit : ℕ → ℕ → ℕ
+with_digit number digit = 10 * number + (digit - 48)
+
+-- the number that decimal digits write
+abbrev pub number_of_digits : List ℕ → ℕ
+number_of_digits digits = fold with_digit 0 digits
+
+-- one to ten decimal digits
+abbrev pub is_number : List ℕ → Bool
+is_number word = nat_le 1 (length word) && (nat_le (length word) 10 && list_all is_ascii_digit word)
+
+-- the fourteen rates of MPEG-1 Layer III
+abbrev pub rates : List Rate
+rates = K32 ∷ K40 ∷ K48 ∷ K56 ∷ K64 ∷ K80 ∷ K96 ∷ K112 ∷ K128 ∷ K160 ∷ K192 ∷ K224 ∷ K256 ∷ K320 ∷ []
+
+-- the one of so many kbit/s
+unfoldable pub rate_of : ℕ → Option Rate
+rate_of kbits = find (λ rate. kbits_of rate == kbits) rates
+
+-- the rate that a word names
+abbrev pub rate_of_word : List ℕ → Option Rate
+rate_of_word word = if is_number word then rate_of (number_of_digits word) else None
+
+-- the rate that the words ask for, 128 kbit/s where they name none; no rate where they are refused
+abbrev pub rate_of_words : List (List ℕ) → Option Rate
+rate_of_words (command ∷ []) = if bytes_eq command (codes "encode") then Some K128 else None
+rate_of_words (command ∷ option ∷ number ∷ []) = if bytes_eq command (codes "encode") && bytes_eq option (codes "--rate") then rate_of_word number else None
+rate_of_words words = None

@@ -17,8 +17,8 @@ pub enum Ending {
     ReadFault,
     /// A write failed, or took nothing.
     WriteFault,
-    /// The samples are of a form that is not built yet.
-    Unbuilt,
+    /// Memory ran out, and nothing was written.
+    Memory,
 }
 
 impl Ending {
@@ -35,7 +35,7 @@ impl Ending {
             Ending::Refused(fault) => refusal(fault),
             Ending::ReadFault => Status::ReadFault,
             Ending::WriteFault => Status::WriteFault,
-            Ending::Unbuilt => Status::Unbuilt,
+            Ending::Memory => Status::Memory,
         }
     }
 
@@ -49,7 +49,7 @@ impl Ending {
             Ending::Refused(fault) => refusal_line(fault),
             Ending::ReadFault => b"mp3enc: read fault\n",
             Ending::WriteFault => b"mp3enc: write fault\n",
-            Ending::Unbuilt => b"mp3enc: unbuilt\n",
+            Ending::Memory => b"mp3enc: out of memory\n",
         }
     }
 }

@@ -1,12 +1,12 @@
 //! WAV on standard input -> MP3 on standard output; how it ended -> standard error and the exit status.
 //!
-//! Before: `l3_wav` and `l3_frames`. After: nothing; this is the program.
+//! Before: `l3_encoder`. After: nothing; this is the program.
 #![tactic(auto)]
 
 mod ending;
 mod program;
 mod status;
-mod zeros;
+mod words;
 
 use l3_io::{StdSink, StdSource};
 pub use program::run_alone;
@@ -25,9 +25,11 @@ fn main(rt: HostRuntime) -> anyhow::Result<ExitCode> {
     let mut source = StdSource::new(rt.stdin());
     let mut sink = StdSink::new(rt.stdout());
     let mut notes = StdSink::new(rt.stderr());
-    let status = run_alone(words.as_slice(), &mut source, &mut sink, &mut notes);
+    let status = run_alone(alloc, words.as_slice(), &mut source, &mut sink, &mut notes);
     Ok(ExitCode::from(status.map_or(Status::Ok.number(), |status| status.number())))
 }
 
+#[cfg(test)]
+mod sine;
 #[cfg(test)]
 mod tests;

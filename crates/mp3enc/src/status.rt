@@ -17,8 +17,6 @@ pub enum Status {
     WriteFault = 6,
     /// The bytes are no stream of this encoder.
     BadStream = 7,
-    /// The WAV file is of a form that this program does not encode yet.
-    Unbuilt = 8,
 }
 
 impl Status {

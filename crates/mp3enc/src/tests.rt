@@ -1,3 +1,4 @@
+use crate::sine::{period, stream};
 use crate::{Status, run_alone};
 use l3_io::{MemSink, MemSource, Source};
 use std::alloc::{AllocError, Global};
@@ -7,20 +8,27 @@ use std::test::Fail;
 const HEAD: [u8; 44] =
     *b"RIFF\x24\0\0\0WAVEfmt \x10\0\0\0\x01\0\x01\0\x44\xAC\0\0\x88\x58\x01\0\x02\0\x10\0data\0\0\0\0";
 
-// A file of one channel at 44100 Hz with so many samples, of which the last has this low byte.
-fn wav(alloc: Global, samples: u16, last: u8) -> Result<Vec<u8>, AllocError> {
-    let size = u32::from(samples) * 2;
+// The same with another number of channels, other low bytes of the sampling frequency and so many bytes of samples.
+fn head(channels: u8, hertz: [u8; 2], size: u32) -> [u8; 44] {
+    let mut head = HEAD;
+    head[22] = channels;
+    head[24..26].copy_from_slice(&hertz);
+    head[32] = channels.saturating_mul(2);
+    head[40..44].copy_from_slice(&size.to_le_bytes());
+    head
+}
+
+// A file of so many zeros.
+fn zeros(alloc: Global, channels: u8, hertz: [u8; 2], values: u16) -> Result<Vec<u8>, AllocError> {
     let mut bytes = Vec::new(alloc);
-    bytes.extend_from_slice(&HEAD[..40])?;
-    bytes.extend_from_slice(&size.to_le_bytes())?;
-    for n in 0..samples {
-        let low = if n + 1 == samples { last } else { 0 };
-        bytes.extend_from_slice(&[low, 0])?;
+    bytes.extend_from_slice(&head(channels, hertz, u32::from(values) * 2))?;
+    for _ in 0..values {
+        bytes.extend_from_slice(&[0, 0])?;
     }
     Ok(bytes)
 }
 
-// What a sink took, and what notes say of it.
+// How a run ended, what a sink took of it, what notes say, and what is left of the source.
 fn encoded(
     rt: &HostRuntime,
     words: &[&str],
@@ -32,13 +40,13 @@ fn encoded(
     let mut source = MemSource::new(alloc, bytes, 100, fails)?;
     let mut sink = MemSink::new(alloc, room, 300, &[])?;
     let mut notes = MemSink::new(alloc, 100, 7, &[])?;
-    let status = run_alone(words, &mut source, &mut sink, &mut notes);
+    let status = run_alone(alloc, words, &mut source, &mut sink, &mut notes);
     Ok((status, sink, notes, source))
 }
 
 #[test]
 fn one_zero_sample(rt: HostRuntime) -> Result<(), Fail> {
-    let bytes = wav(rt.alloc(), 1, 0)?;
+    let bytes = zeros(rt.alloc(), 1, [0x44, 0xAC], 1)?;
     let (status, sink, notes, _) = encoded(&rt, &["encode"], bytes.as_slice(), 10000, &[])?;
     assert_eq!(rt; status, Some(Status::Ok));
     let mut stream = [0; 835];
@@ -51,14 +59,65 @@ fn one_zero_sample(rt: HostRuntime) -> Result<(), Fail> {
 
 #[test]
 fn zeros_over_two_frames(rt: HostRuntime) -> Result<(), Fail> {
-    let bytes = wav(rt.alloc(), 1153, 0)?;
+    let bytes = zeros(rt.alloc(), 1, [0x44, 0xAC], 1153)?;
     let (status, sink, _, _) = encoded(&rt, &["encode"], bytes.as_slice(), 10000, &[])?;
     assert_eq!(rt; status, Some(Status::Ok));
     assert_eq!(rt; sink.bytes().len(), 417 + 418 + 418);
+    let third = sink.bytes().get(835..).unwrap_or(&[]);
+    assert!(rt; third.starts_with(&[0xFF, 0xFB, 0x92, 0xC0, 0xFF, 0x80]));
+    Ok(())
+}
+
+#[test]
+fn no_samples(rt: HostRuntime) -> Result<(), Fail> {
+    let (status, sink, _, _) = encoded(&rt, &["encode"], &HEAD, 10000, &[])?;
+    assert_eq!(rt; status, Some(Status::Ok));
+    assert_eq!(rt; sink.bytes().len(), 0);
+    Ok(())
+}
+
+#[test]
+fn reservoir_fills_at_32_kbit(rt: HostRuntime) -> Result<(), Fail> {
+    let bytes = zeros(rt.alloc(), 2, [0x80, 0xBB], 23040)?;
+    let words = ["encode", "--rate", "32"];
+    let (status, sink, _, _) = encoded(&rt, &words, bytes.as_slice(), 10000, &[])?;
+    assert_eq!(rt; status, Some(Status::Ok));
+    assert_eq!(rt; sink.bytes().len(), 11 * 96);
+    // Where a frame's side information begins, and the nine bits of main_data_begin there.
+    for (at, begin) in [
+        (4, 0),
+        (100, 60),
+        (196, 120),
+        (292, 180),
+        (388, 240),
+        (484, 300),
+        (580, 360),
+        (676, 420),
+        (772, 480),
+        (868, 511),
+        (964, 511),
+    ] {
+        let high = sink.bytes().get(at).copied().unwrap_or(0);
+        let low = sink.bytes().get(at + 1).copied().unwrap_or(0);
+        assert_eq!(rt;
+            u16::from(high) * 2 + u16::from(low) / 128,
+            begin,
+            "at {at}"
+        );
+    }
+    Ok(())
+}
+
+#[test]
+fn no_reservoir_at_320_kbit(rt: HostRuntime) -> Result<(), Fail> {
+    let bytes = zeros(rt.alloc(), 1, [0x44, 0xAC], 1)?;
+    let words = ["encode", "--rate", "0320"];
+    let (status, sink, _, _) = encoded(&rt, &words, bytes.as_slice(), 10000, &[])?;
+    assert_eq!(rt; status, Some(Status::Ok));
+    assert_eq!(rt; sink.bytes().len(), 1044 + 1045);
     for (at, front) in [
-        (0, [0xFF, 0xFB, 0x90, 0xC0, 0x00, 0x00]),
-        (417, [0xFF, 0xFB, 0x92, 0xC0, 0xC6, 0x00]),
-        (835, [0xFF, 0xFB, 0x92, 0xC0, 0xFF, 0x80]),
+        (0, [0xFF, 0xFB, 0xE0, 0xC0, 0x00, 0x00]),
+        (1044, [0xFF, 0xFB, 0xE2, 0xC0, 0x00, 0x00]),
     ] {
         let rest = sink.bytes().get(at..).unwrap_or(&[]);
         assert!(rt; rest.starts_with(&front), "at {at}");
@@ -67,23 +126,17 @@ fn zeros_over_two_frames(rt: HostRuntime) -> Result<(), Fail> {
 }
 
 #[test]
-fn no_samples(rt: HostRuntime) -> Result<(), Fail> {
-    let bytes = wav(rt.alloc(), 0, 0)?;
-    let (status, sink, _, _) = encoded(&rt, &["encode"], bytes.as_slice(), 10000, &[])?;
-    assert_eq!(rt; status, Some(Status::Ok));
-    assert_eq!(rt; sink.bytes().len(), 0);
-    Ok(())
-}
-
-#[test]
-fn sample_not_zero(rt: HostRuntime) -> Result<(), Fail> {
-    for samples in [1, 2000] {
-        let bytes = wav(rt.alloc(), samples, 1)?;
-        let (status, sink, notes, _) = encoded(&rt, &["encode"], bytes.as_slice(), 10000, &[])?;
-        assert_eq!(rt; status, Some(Status::Unbuilt));
-        assert_eq!(rt; sink.bytes().len(), 0);
-        assert_eq!(rt; notes.bytes(), b"mp3enc: unbuilt\n".as_slice());
+fn sine_at_32_kbit(rt: HostRuntime) -> Result<(), Fail> {
+    let mut bytes = Vec::new(rt.alloc());
+    bytes.extend_from_slice(&head(1, [0x00, 0x7D], 6000))?;
+    for n in 0..3000 {
+        let sample = period().get(n % 400).copied().unwrap_or(0);
+        bytes.extend_from_slice(&sample.to_le_bytes())?;
     }
+    let words = ["encode", "--rate", "32"];
+    let (status, sink, _, _) = encoded(&rt, &words, bytes.as_slice(), 10000, &[])?;
+    assert_eq!(rt; status, Some(Status::Ok));
+    assert_eq!(rt; sink.bytes(), stream());
     Ok(())
 }
 
@@ -151,64 +204,18 @@ fn refused_heads(rt: HostRuntime) -> Result<(), Fail> {
 }
 
 #[test]
-fn heads_cut_short(rt: HostRuntime) -> Result<(), Fail> {
-    for length in [0, 11, 43] {
-        let head = HEAD.get(..length).unwrap_or(&[]);
-        let (status, sink, notes, _) = encoded(&rt, &["encode"], head, 10000, &[])?;
-        assert_eq!(rt; status, Some(Status::BadWav));
-        assert_eq!(rt; sink.bytes().len(), 0);
-        assert_eq!(rt; notes.bytes(), b"mp3enc: wav: HeaderEnds\n".as_slice());
-    }
-    Ok(())
-}
-
-#[test]
-fn silence_in_stereo_at_each_rate(rt: HostRuntime) -> Result<(), Fail> {
-    // Low bytes of the rate, bytes of the stream, place and first bytes of its second frame.
-    for (low, next, length, second, front) in [
-        (0x44, 0xAC, 835, 417, [0xFF, 0xFB, 0x92, 0x00, 0xBE, 0x80]),
-        (0x80, 0xBB, 768, 384, [0xFF, 0xFB, 0x94, 0x00, 0xAE, 0x00]),
-        (0x00, 0x7D, 1152, 576, [0xFF, 0xFB, 0x98, 0x00, 0xBF, 0x80]),
-    ] {
-        // Five bytes of a size that a pipe declares: one sample of each channel and a rest.
-        let mut bytes = [0; 49];
-        bytes[..44].copy_from_slice(&HEAD);
-        bytes[22] = 2;
-        bytes[24] = low;
-        bytes[25] = next;
-        bytes[32] = 4;
-        bytes[40..44].copy_from_slice(&[0xFF; 4]);
-        let (status, sink, _, _) = encoded(&rt, &["encode"], &bytes, 10000, &[])?;
-        assert_eq!(rt; status, Some(Status::Ok));
-        assert_eq!(rt; sink.bytes().len(), length);
-        let rest = sink.bytes().get(second..).unwrap_or(&[]);
-        assert!(rt; rest.starts_with(&front), "of {length} bytes");
-    }
-    Ok(())
-}
-
-#[test]
-fn a_word_too_many(rt: HostRuntime) -> Result<(), Fail> {
-    let bytes = wav(rt.alloc(), 1, 0)?;
-    let (status, sink, notes, mut source) = encoded(
-        &rt,
-        &["encode", "x"],
-        bytes.as_slice(),
-        10000,
-        &[],
-    )?;
-    assert_eq!(rt; status, Some(Status::Usage));
+fn read_fails_in_the_data(rt: HostRuntime) -> Result<(), Fail> {
+    let bytes = zeros(rt.alloc(), 2, [0x44, 0xAC], 2304)?;
+    let (status, sink, notes, _) = encoded(&rt, &["encode"], bytes.as_slice(), 10000, &[2])?;
+    assert_eq!(rt; status, Some(Status::ReadFault));
     assert_eq!(rt; sink.bytes().len(), 0);
-    let usage = b"mp3enc: usage: mp3enc encode, check or demo FRAMES SEED\n";
-    assert_eq!(rt; notes.bytes(), usage.as_slice());
-    let mut unread = [0; 50];
-    assert_eq!(rt; source.read(&mut unread), Ok(46));
+    assert_eq!(rt; notes.bytes(), b"mp3enc: read fault\n".as_slice());
     Ok(())
 }
 
 #[test]
 fn sink_fills_up(rt: HostRuntime) -> Result<(), Fail> {
-    let bytes = wav(rt.alloc(), 1, 0)?;
+    let bytes = zeros(rt.alloc(), 1, [0x44, 0xAC], 1)?;
     let (status, sink, notes, _) = encoded(&rt, &["encode"], bytes.as_slice(), 100, &[])?;
     assert_eq!(rt; status, Some(Status::WriteFault));
     let mut front = [0; 100];
@@ -218,12 +225,27 @@ fn sink_fills_up(rt: HostRuntime) -> Result<(), Fail> {
     Ok(())
 }
 
+// Whether words are refused, with nothing read and nothing written.
+fn is_refused(rt: &HostRuntime, words: &[&str]) -> Result<bool, AllocError> {
+    let (status, sink, notes, mut source) = encoded(rt, words, &HEAD, 10000, &[])?;
+    let usage = b"mp3enc: usage: mp3enc encode, check or demo FRAMES SEED\n";
+    let mut unread = [0; 50];
+    Ok(
+        status == Some(Status::Usage)
+            && sink.bytes().is_empty()
+            && notes.bytes() == usage.as_slice()
+            && source.read(&mut unread) == Ok(44),
+    )
+}
+
 #[test]
-fn read_fails_in_the_data(rt: HostRuntime) -> Result<(), Fail> {
-    let bytes = wav(rt.alloc(), 1153, 0)?;
-    let (status, sink, notes, _) = encoded(&rt, &["encode"], bytes.as_slice(), 10000, &[2])?;
-    assert_eq!(rt; status, Some(Status::ReadFault));
-    assert_eq!(rt; sink.bytes().len(), 0);
-    assert_eq!(rt; notes.bytes(), b"mp3enc: read fault\n".as_slice());
+fn words_refused(rt: HostRuntime) -> Result<(), Fail> {
+    assert!(rt; is_refused(&rt, &[])?);
+    assert!(rt; is_refused(&rt, &["help"])?);
+    assert!(rt; is_refused(&rt, &["encode", "x"])?);
+    assert!(rt; is_refused(&rt, &["encode", "--rate"])?);
+    assert!(rt; is_refused(&rt, &["encode", "--rate", "100"])?);
+    assert!(rt; is_refused(&rt, &["encode", "--rate", "+128"])?);
+    assert!(rt; is_refused(&rt, &["encode", "--rate", "00000000128"])?);
     Ok(())
 }

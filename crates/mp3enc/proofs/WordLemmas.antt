@@ -1,0 +1,86 @@
+-- The number that a word writes, and the rate that words ask for.
+use Rattle.std.proofs.Common.{◌≡◌, ◌∙◌, ◌⊎◌, inl, inr, sym, ap, refl, ℕ, ◌<◌, ◌≤◌, Bool, true, false, eqb, List, [], ◌∷◌, length, get_or, arith}
+use Rattle.std.proofs.lemmas.Bool.Decides.{eqb_tells}
+use Rattle.std.specs.Prelude.{Option, Some, None, IfSome, IfNone, find, ◌==◌, ◌&&◌, codes, if◌then◌else◌}
+use Rattle.std.specs.Str.{bytes_eq}
+use Rattle.l3_base.specs.declared.rate.Rate.{Rate}
+use Rattle.l3_base.specs.declared.rate.Rate.TheVariants.{K32, K40, K48, K56, K64, K80, K96, K112, K128, K160, K192, K224, K256, K320}
+use Rattle.l3_base.specs.Rates.{kbits_of, IsNoRate}
+use Rattle.mp3enc.specs.Words.{rates, rate_of, rate_of_word, rate_of_words}
+
+-- each rate is found by its number
+found : (rate : Rate) → rate_of (kbits_of rate) ≡ Some rate
+unfolding rate_of
+found K32 = refl
+found K40 = refl
+found K48 = refl
+found K56 = refl
+found K64 = refl
+found K80 = refl
+found K96 = refl
+found K112 = refl
+found K128 = refl
+found K160 = refl
+found K192 = refl
+found K224 = refl
+found K256 = refl
+found K320 = refl
+
+unequal : (a b : ℕ) → (a ≡ b → ⊥) → eqb a b ≡ false
+unequal a b other = elim (eqb_tells a b) [ inl same ↦ absurd (other same.1) | inr apart ↦ apart.0 ]
+
+found_none : {X : Type 0} (test : X → Bool) (xs : List X) → ((x : X) → test x ≡ false) → find test xs ≡ None
+found_none test [] fails = refl
+found_none test (x ∷ xs) fails = rw (fails x) (found_none test xs fails)
+
+no_rate : (kbits : ℕ) → IsNoRate kbits → rate_of kbits ≡ None
+unfolding rate_of
+no_rate kbits none = found_none (λ rate. kbits_of rate == kbits) rates (λ rate. unequal (kbits_of rate) kbits (none rate))
+
+-- what is found by a number
+pub rate_is : (answer : Option Rate) (kbits : ℕ) → IfSome answer (λ rate. kbits_of rate ≡ kbits) → IfNone answer (IsNoRate kbits) → answer ≡ rate_of kbits
+rate_is (Some rate) kbits some none = sym (ap rate_of (sym some) ∙ found rate)
+rate_is None kbits some none = sym (no_rate kbits none)
+
+low : (rate : Rate) → kbits_of rate ≤ 320
+low K32 = omega arith
+low K40 = omega arith
+low K48 = omega arith
+low K56 = omega arith
+low K64 = omega arith
+low K80 = omega arith
+low K96 = omega arith
+low K112 = omega arith
+low K128 = omega arith
+low K160 = omega arith
+low K192 = omega arith
+low K224 = omega arith
+low K256 = omega arith
+low K320 = omega arith
+
+-- no rate is above 320 kbit/s
+pub no_rate_above : (kbits : ℕ) → 320 < kbits → None ≡ rate_of kbits
+no_rate_above kbits above = sym (no_rate kbits (λ rate is. absurd (omega (arith, above, is, low rate))))
+
+-- one word
+pub one_word : (words : List (List ℕ)) → length words ≡ 1 → rate_of_words words ≡ (if bytes_eq (get_or words 0 []) (codes "encode") then Some K128 else None)
+one_word [] long = cc
+one_word (a ∷ []) long = refl
+one_word (a ∷ b ∷ words) long = absurd (omega (arith, long))
+
+-- three words
+pub three_words : (words : List (List ℕ)) → length words ≡ 3 → rate_of_words words ≡
+    (if bytes_eq (get_or words 0 []) (codes "encode") && bytes_eq (get_or words 1 []) (codes "--rate") then rate_of_word (get_or words 2 []) else None)
+three_words [] long = cc
+three_words (a ∷ []) long = absurd (omega (arith, long))
+three_words (a ∷ b ∷ []) long = absurd (omega (arith, long))
+three_words (a ∷ b ∷ c ∷ []) long = refl
+three_words (a ∷ b ∷ c ∷ d ∷ words) long = absurd (omega (arith, long))
+
+-- another number of words
+pub other_words : (words : List (List ℕ)) → (length words ≡ 1 → ⊥) → (length words ≡ 3 → ⊥) → rate_of_words words ≡ None
+other_words [] one three = refl
+other_words (a ∷ []) one three = absurd (one refl)
+other_words (a ∷ b ∷ []) one three = refl
+other_words (a ∷ b ∷ c ∷ []) one three = absurd (three refl)
+other_words (a ∷ b ∷ c ∷ d ∷ words) one three = refl
