@@ -30,6 +30,8 @@ fn main(rt: HostRuntime) -> anyhow::Result<ExitCode> {
 }
 
 #[cfg(test)]
+mod impulse;
+#[cfg(test)]
 mod sine;
 #[cfg(test)]
 mod tests;

@@ -1,3 +1,4 @@
+use crate::impulse::middle;
 use crate::sine::{period, stream};
 use crate::{Status, run_alone};
 use l3_io::{MemSink, MemSource, Source};
@@ -7,6 +8,10 @@ use std::test::Fail;
 // The head of a file of one channel at 44100 Hz, with no samples.
 const HEAD: [u8; 44] =
     *b"RIFF\x24\0\0\0WAVEfmt \x10\0\0\0\x01\0\x01\0\x44\xAC\0\0\x88\x58\x01\0\x02\0\x10\0data\0\0\0\0";
+
+// As ffmpeg writes to a pipe: sizes that say nothing, and a comment before the data.
+const FROM_A_PIPE: &[u8] =
+    b"RIFF\xFF\xFF\xFF\xFFWAVEfmt \x10\0\0\0\x01\0\x02\0\x44\xAC\0\0\x10\xB1\x02\0\x04\0\x10\0LIST\x1A\0\0\0INFOISFT\x0E\0\0\0Lavf59.27.100\0data\xFF\xFF\xFF\xFF";
 
 // The same with another number of channels, other low bytes of the sampling frequency and so many bytes of samples.
 fn head(channels: u8, hertz: [u8; 2], size: u32) -> [u8; 44] {
@@ -137,6 +142,39 @@ fn sine_at_32_kbit(rt: HostRuntime) -> Result<(), Fail> {
     let (status, sink, _, _) = encoded(&rt, &words, bytes.as_slice(), 10000, &[])?;
     assert_eq!(rt; status, Some(Status::Ok));
     assert_eq!(rt; sink.bytes(), stream());
+    Ok(())
+}
+
+#[test]
+fn impulse_at_128_kbit(rt: HostRuntime) -> Result<(), Fail> {
+    // 2304 samples, all 0 but sample 700, which is 32767.
+    let mut bytes = zeros(rt.alloc(), 1, [0x44, 0xAC], 2304)?;
+    if let Some(sample) = bytes.as_mut_slice().get_mut(1444..1446) {
+        sample.copy_from_slice(&[0xFF, 0x7F]);
+    }
+    let (status, sink, _, _) = encoded(&rt, &["encode"], bytes.as_slice(), 10000, &[])?;
+    assert_eq!(rt; status, Some(Status::Ok));
+    let mut stream = [0; 1253];
+    stream[..4].copy_from_slice(&[0xFF, 0xFB, 0x90, 0xC0]);
+    stream[835..840].copy_from_slice(&[0xFF, 0xFB, 0x92, 0xC0, 0x70]);
+    assert_eq!(rt; sink.bytes().get(13..611), Some(middle()));
+    assert_eq!(rt; sink.bytes().get(..13), stream.get(..13));
+    assert_eq!(rt; sink.bytes().get(611..), stream.get(611..));
+    Ok(())
+}
+
+#[test]
+fn ten_seconds_from_a_pipe(rt: HostRuntime) -> Result<(), Fail> {
+    // A head as ffmpeg writes it to a pipe, and 441000 samples of 0 in stereo.
+    let mut bytes = Vec::new(rt.alloc());
+    bytes.extend_from_slice(FROM_A_PIPE)?;
+    for _ in 0..3528 {
+        bytes.extend_from_slice(&[0; 500])?;
+    }
+    let (status, sink, _, _) = encoded(&rt, &["encode"], bytes.as_slice(), 1000000, &[])?;
+    assert_eq!(rt; status, Some(Status::Ok));
+    assert_eq!(rt; sink.bytes().len(), 160496);
+    assert!(rt; sink.bytes().starts_with(&[0xFF, 0xFB, 0x90, 0x00]));
     Ok(())
 }
 
