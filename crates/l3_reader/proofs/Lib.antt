@@ -1,0 +1,14 @@
+pub mod Found
+pub mod Loops
+pub mod Zeros
+pub mod UnitSteps
+pub mod UnitLines
+pub mod Granules
+pub mod MainSteps
+pub mod FrameSteps
+pub mod Heads
+pub mod Moved
+pub mod Own
+pub mod WholeSteps
+pub mod FrameLoop
+pub mod StreamSteps

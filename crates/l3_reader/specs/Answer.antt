@@ -1,0 +1,16 @@
+-- What the reader of a stream answers.
+use Rattle.std.specs.Prelude.{◌≡◌, ⊤, Result, Ok, Err}
+use Rattle.l3_stream.specs.declared.fault.StreamFault.{StreamFault}
+use Rattle.l3_stream.specs.declared.fault.StreamFault.TheVariants as faults
+use Rattle.l3_stream.specs.Deviation.{Content}
+use Rattle.l3_reader.specs.declared.stream.Stream.{Stream}
+
+-- a failed read and want of memory say nothing of the bytes; any other fault is theirs
+abbrev pub Explains : {A : Type 0} → StreamFault → Result A StreamFault → Type 0
+Explains faults.Read said = ⊤
+Explains faults.Memory said = ⊤
+Explains fault said = said ≡ Err fault
+
+-- the settings and the frames
+abbrev pub content_in : Stream → Content
+content_in stream = record { settings = stream.settings; frames = stream.frames.items }

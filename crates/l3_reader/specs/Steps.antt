@@ -1,0 +1,82 @@
+-- What the steps of the reader give.
+use Rattle.std.specs.Prelude.{◌≡◌, ℕ, ◌+◌, ◌-◌, ◌*◌, ◌^◌, ◌<◌, ◌≤◌, Bool, List, [], ◌++◌, length, take, drop, slice_index, nat_lt, if◌then◌else◌, ◌⊎◌, Option, Some, Result, Ok, Err}
+use Rattle.l3_bits.specs.Bits.{bits_of}
+use Rattle.l3_base.specs.declared.settings.Settings.{Settings}
+use Rattle.l3_base.specs.Lengths.{slots_before, slot_bytes_of}
+use Rattle.l3_stream.specs.declared.fault.StreamFault.{StreamFault}
+use Rattle.l3_stream.specs.declared.fault.StreamFault.TheVariants as faults
+use Rattle.l3_stream.specs.declared.unit.Unit.{Unit}
+use Rattle.l3_stream.specs.declared.unit.ChosenFrame.{ChosenFrame}
+use Rattle.l3_stream.specs.Units.{edge}
+use Rattle.l3_stream.specs.Frames.{placed}
+use Rattle.l3_stream.specs.Tape.{start_of}
+use Rattle.l3_stream.specs.Faults.{◌>>=◌}
+use Rattle.l3_stream.specs.Deviation.{Place, head_at, slot_at, main_at, next_place}
+use Rattle.l3_reader.specs.declared.quantised.Regions.{Regions}
+use Rattle.l3_reader.specs.declared.tape.Tape.{Tape}
+
+-- an answer, made of the value where there is one
+abbrev pub gives : {A B : Type 0} → (A → B) → Result A StreamFault → Result B StreamFault
+gives made (Ok x) = Ok (made x)
+gives made (Err fault) = Err fault
+
+-- the regions of a unit
+abbrev pub regions_of : Settings → Unit → Regions
+regions_of st u = record { tables = u.tables; second = edge st (u.region0 + 1); third = edge st (u.region0 + u.region1 + 2) }
+
+-- the table of the pair that begins at a line
+unfoldable pub table_by : Regions → ℕ → ℕ
+table_by r line = slice_index r.tables (if nat_lt line r.second then 0 else if nat_lt line r.third then 1 else 2)
+
+-- a frame, and where reading stands behind it
+unfoldable pub frame_at : Settings → Place → List ℕ → Result (ChosenFrame × Place) StreamFault
+frame_at st p bytes = do
+  side ← head_at st p bytes
+  units ← main_at st p side (slot_at st p.number bytes)
+  Ok (record { begin = side.0; units = placed st.channels units }, next_place st p side (slot_at st p.number bytes))
+
+-- where reading stands, by what is kept of the tape
+abbrev pub place_of : Tape → Place
+place_of t = record { number = t.number; at = t.at; end = t.end; rest = drop (t.end - 8 * t.base) (bits_of (take t.filled t.bytes)) }
+
+-- the bytes kept go from the byte in which the codes end to the end of the slots so far
+pub record IsKept (st : Settings) (t : Tape) : Type 0 where
+  pub room : length t.bytes ≡ 4096
+  pub number : t.number ≤ 2 ^ 24
+  pub at : t.at ≤ 1441 * t.number
+  pub slots : t.base + t.filled ≡ slots_before st t.number
+  pub small : t.base + t.filled ≤ 1441 * t.number
+  pub few : t.filled ≤ 1931
+  pub begun : 8 * t.base ≤ t.end
+  pub near : t.end < 8 * t.base + 8
+  pub within : t.end ≤ 8 * (t.base + t.filled)
+
+-- the bits of a slot of so many bytes that stands behind the bytes kept
+abbrev pub slot_of : Tape → ℕ → List Bool
+slot_of t bytes = bits_of (take bytes (drop t.filled t.bytes))
+
+-- main data of so many bits, with this main_data_begin, is within the tape with the next slot, and ends at a bit
+pub record GoesTo (st : Settings) (t : Tape) (begin bits end : ℕ) : Type 0 where
+  pub reached : begin ≤ slots_before st t.number
+  pub after : t.end ≤ start_of st t.number begin
+  pub is : end ≡ start_of st t.number begin + bits
+  pub within : bits ≤ 8 * (begin + slot_bytes_of st t.number)
+
+-- so many bytes of those that were left were read into the front of a buffer: all that it has room for, or all that were left
+pub record ReadsFront (left : List ℕ) (n : ℕ) (buffer : List ℕ) (now : Option (List ℕ)) : Type 0 where
+  pub rest : List ℕ
+  pub is : now ≡ Some rest
+  pub bytes : left ≡ take n buffer ++ rest
+  pub short : n < length buffer → rest ≡ []
+
+-- the bytes that were left begin with these, and the others are left
+pub record BeginsWith (left bytes : List ℕ) (now : Option (List ℕ)) : Type 0 where
+  pub rest : List ℕ
+  pub is : now ≡ Some rest
+  pub bytes_are : left ≡ bytes ++ rest
+
+-- no header begins a frame of this number at this byte: a read failed, or one frame is too many, or fewer than 4 bytes are left
+abbrev pub NoHeader : StreamFault → ℕ → ℕ → ℕ → List ℕ → Type 0
+NoHeader fault limit number at left =
+    (fault ≡ faults.Read) ⊎ (((fault ≡ faults.TooLong at) × (limit ≤ number) × (0 < length left))
+    ⊎ ((fault ≡ faults.ShortFrame at) × (number < limit) × (0 < length left) × (length left < 4)))

@@ -1,0 +1,67 @@
+//! A whole stream: its first header, and the frames under the settings that it tells.
+
+ghost use Rattle.std.specs.Prelude.{◌≡◌, ◌≤◌, ◌^◌, [], Ok, Err, None, Some, All, IfOk, IfErr, OnOk, IfSome, length};
+ghost use Rattle.l3_io.specs.Causes.{Rose};
+ghost use Rattle.l3_stream.specs.Frames.{IsCoded};
+ghost use Rattle.l3_stream.specs.Deviation.{reading_of};
+ghost use Rattle.l3_reader.specs.Answer.{Explains, content_in};
+
+use crate::StreamFault;
+use crate::frame::first_settings;
+use crate::frames::{read_frames, read_header_bytes};
+use l3_base::Settings;
+use l3_io::Source;
+use l3_stream::ChosenFrame;
+use std::alloc::Global;
+
+/// What a stream holds.
+#[derive(Drop)]
+pub struct Stream {
+    /// The settings that the first header tells: `None` where there are no frames.
+    pub settings: Option<Settings>,
+    /// The frames in their order.
+    pub frames: Vec<ChosenFrame>,
+}
+
+/// Reads a stream of at most `limit` frames to its end.
+///
+/// The frames are tried in order by the rules of reading, and the first one that refuses decides: each fault but `Read` and `Memory`
+/// is the stream's first deviation, with its place. A frame takes about 5 KB of memory.
+pub fn read_stream<S: Source>(
+    alloc: Global,
+    limit: u32,
+    source: &mut S,
+) -> Result<Stream, StreamFault>
+    requires { limit ≤ 16777216 }
+    ensures content { IfOk result (λ stream. IfSome (S.left source.old) (λ left. reading_of limit left ≡ Ok (content_in stream))) }
+    ensures fault { IfErr result (λ fault. IfSome (S.left source.old) (λ left. Explains fault (reading_of limit left))) }
+    ensures rest { OnOk result (IfSome (S.left source.old) (λ _. S.left source.new ≡ Some [])) }
+
+    // Whatever the source tells:
+    ensures few { IfOk result (λ stream. length stream.frames.items ≤ limit) }
+    ensures coded { IfOk result (λ stream. IfSome stream.settings (λ st. All (IsCoded st) stream.frames.items)) }
+    ensures none { IfOk result (λ stream. stream.settings ≡ None → stream.frames.items ≡ []) }
+    ensures empty { IfOk result (λ stream. stream.frames.items ≡ [] → stream.settings ≡ None) }
+    ensures later { S.faults source.old ≤ S.faults source.new }
+    ensures read { result ≡ Err StreamFault.Read → Rose (S.faults source.old) (S.faults source.new) }
+{
+    let first = read_header_bytes(source, u64::from(limit), 0, 0)?;
+    let header = match first {
+        None => {
+            return Ok(Stream {
+                settings: None,
+                frames: Vec::new(alloc),
+            });
+        },
+        Some(header) => header,
+    };
+    let settings = match first_settings(&header) {
+        None => return Err(StreamFault::BadHeader(0)),
+        Some(settings) => settings,
+    };
+    let frames = read_frames(alloc, limit, source, &settings, header)?;
+    Ok(Stream {
+        settings: Some(settings),
+        frames,
+    })
+}
