@@ -1,6 +1,6 @@
 -- From what an ending says of input and output, each clause of the program.
-use Rattle.std.proofs.Common.{◌≡◌, ◌≢◌, ◌⊎◌, ℕ, List, Bool, true, false, refl, ap, sym, ◌∙◌, inl, inr, arith}
-use Rattle.std.specs.Prelude.{Option, Some, None, IfSome, IsSome, IsSomeAnd, ◌↔◌, Result, Ok, Err, OnErr}
+use Rattle.std.proofs.Common.{◌≡◌, ◌⊎◌, ℕ, List, refl, ap, ◌∙◌, inl, inr, arith}
+use Rattle.std.specs.Prelude.{Option, Some, None, IfSome, IsSomeAnd, ◌↔◌, Result, Ok, Err, OnErr}
 use Rattle.std.proofs.lemmas.Option.{IfSome_then}
 use Rattle.l3_io.specs.Causes.{Rose, IsSteady}
 use Rattle.l3_io.specs.Taken.{Takes, TakesPrefix, Stands, Writes}

@@ -1,5 +1,5 @@
 -- What an ending says of the input and the output of `encode`.
-use Rattle.std.specs.Prelude.{◌≡◌, ◌≢◌, ℕ, List, Option, Some, None, Ok, Err, IfSome, IsSomeAnd}
+use Rattle.std.specs.Prelude.{◌≡◌, ◌≢◌, ℕ, List, Option, Some, Ok, Err, IfSome, IsSomeAnd}
 use Rattle.l3_io.specs.Taken.{Takes, TakesPrefix}
 use Rattle.l3_base.specs.declared.rate.Rate.{Rate}
 use Rattle.l3_encoder.specs.Encoded.{encoding_in, rest_in}
