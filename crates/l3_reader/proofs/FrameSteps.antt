@@ -1,9 +1,8 @@
 -- Reading one frame from its bytes: what each step gives.
-use Rattle.std.proofs.Common.{◌≡◌, ℕ, zero, suc, ◌+◌, ◌-◌, ◌*◌, ◌/◌, ◌%◌, ◌^◌, ◌<◌, ◌≤◌, leb, true, Bool, List, [], ◌∷◌, ◌++◌, length, take, drop, Option, Some, None, Result, Ok, Err, refl, sym, ap, subst, ◌∙◌, arith}
-use Rattle.std.specs.Prelude.{All}
+use Rattle.std.proofs.Common.{◌≡◌, ℕ, zero, suc, ◌+◌, ◌-◌, ◌*◌, ◌/◌, ◌^◌, ◌<◌, ◌≤◌, leb, true, Bool, List, [], ◌∷◌, ◌++◌, length, take, drop, Option, Some, None, Result, Ok, Err, refl, sym, ap, subst, ◌∙◌, arith}
 use Rattle.std.proofs.lemmas.Bool.{le-leb}
 use Rattle.std.proofs.lemmas.List.{drop-drop, length-take-le, length-drop}
-use Rattle.l3_bits.specs.Bits.{bits_of, digits}
+use Rattle.l3_bits.specs.Bits.{bits_of}
 use Rattle.l3_bits.proofs.Places.{length-bits_of}
 use Rattle.l3_base.specs.declared.settings.Settings.{Settings}
 use Rattle.l3_base.specs.Lengths.{slots_before, slot_bytes_of, frame_bytes_of}
@@ -17,14 +16,14 @@ use Rattle.l3_stream.specs.Frames.{placed, IsCoded}
 use Rattle.l3_stream.specs.Header.{header_at}
 use Rattle.l3_stream.specs.Side.{side_bytes}
 use Rattle.l3_stream.specs.SideReading.{side_at}
-use Rattle.l3_stream.specs.Tape.{start_of, FitsAt}
-use Rattle.l3_stream.specs.Faults.{◌>>=◌, checked, or_fault}
+use Rattle.l3_stream.specs.Tape.{start_of}
+use Rattle.l3_stream.specs.Faults.{checked, or_fault}
 use Rattle.l3_stream.specs.Deviation.{Place, head_at, slot_at, main_at, next_place}
-use Rattle.l3_stream.proofs.Steps.{bind_ok, bind_again, checked_again, or_fault_again}
+use Rattle.l3_stream.proofs.Steps.{bind_again, checked_again, or_fault_again}
 use Rattle.l3_stream.proofs.Header.{frame_size}
 use Rattle.l3_stream.proofs.Tape.{slots-suc}
-use Rattle.l3_stream.proofs.FrameReading.{IsPlace, IsHead, IsMain, AreBytes, head_takes, main_takes}
-use Rattle.l3_stream.proofs.WholeFrame.{frame_of, frame_takes, slot_size, FrameStands}
+use Rattle.l3_stream.proofs.FrameReading.{IsPlace, AreBytes, head_takes, main_takes}
+use Rattle.l3_stream.proofs.WholeFrame.{frame_takes, slot_size}
 use Rattle.l3_reader.specs.declared.tape.Tape.{Tape}
 use Rattle.l3_reader.specs.Steps.{IsKept, GoesTo, frame_at, place_of, slot_of}
 use Rattle.l3_reader.proofs.UnitSteps.{bind_bad}

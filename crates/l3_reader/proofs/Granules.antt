@@ -1,5 +1,5 @@
 -- The units of a frame as its reader sets them, granule by granule.
-use Rattle.std.proofs.Common.{◌≡◌, ℕ, ◌+◌, ◌-◌, ◌*◌, ◌≤◌, Bool, List, [], ◌∷◌, ◌++◌, length, take, drop, get_or, set, Result, Ok, Err, refl, sym, ap, subst, ◌∙◌, arith}
+use Rattle.std.proofs.Common.{◌≡◌, ℕ, ◌+◌, List, [], ◌∷◌, ◌++◌, length, drop, get_or, set, Result, Ok, Err, refl, sym, ap, subst, ◌∙◌, arith}
 use Rattle.std.specs.List.{AllByRecursion}
 use Rattle.std.proofs.lemmas.List.{drop-drop}
 use Rattle.l3_bits.specs.Bits.{bits_of}
@@ -10,7 +10,7 @@ use Rattle.l3_huff.specs.declared.quads.QuadTable.TheVariants.{A}
 use Rattle.l3_stream.specs.declared.fault.StreamFault.{StreamFault}
 use Rattle.l3_stream.specs.declared.unit.Unit.{Unit}
 use Rattle.l3_stream.specs.Units.{HasFields, lengths}
-use Rattle.l3_stream.specs.Frames.{blank, placed, units_of, units_number}
+use Rattle.l3_stream.specs.Frames.{blank, placed, units_of}
 use Rattle.l3_stream.specs.UnitReading.{unit_at, main_units_at}
 use Rattle.l3_side.specs.Reading.{IsBare}
 use Rattle.l3_reader.proofs.UnitSteps.{first_bad, two_read, second_bad, both_read, later_bad, earlier_bad}

@@ -1,5 +1,5 @@
 -- Reading pairs and quadruples one after the other, as loops do.
-use Rattle.std.proofs.Common.{◌≡◌, ℕ, zero, suc, ◌+◌, ◌-◌, ◌*◌, ◌≤◌, ◌<◌, Bool, List, [], ◌∷◌, ◌++◌, length, take, drop, set, Option, Some, None, Result, Ok, Err, refl, sym, ap, ◌∙◌, append_assoc, arith, replicate, length-append}
+use Rattle.std.proofs.Common.{◌≡◌, ℕ, zero, suc, ◌+◌, ◌-◌, ◌*◌, ◌≤◌, ◌<◌, Bool, List, [], ◌∷◌, ◌++◌, length, take, drop, set, Some, None, Result, Ok, Err, refl, sym, ap, ◌∙◌, append_assoc, arith, replicate, length-append}
 use Rattle.std.specs.Prelude.{ℤ, pos}
 use Rattle.std.proofs.lemmas.List.{append-nil, length-set, take_more_set, drop-drop, length-take-le, length-drop, drop-replicate}
 use borrow.Rule.Slice.PartMut.{put_mid}

@@ -1,9 +1,9 @@
 -- Reading the main data of a frame: what each step gives, and what the bytes kept say of the tape.
-use Rattle.std.proofs.Common.{◌≡◌, ℕ, ◌+◌, ◌-◌, ◌*◌, ◌<◌, ◌≤◌, leb, ltb, true, false, Bool, ◌&&◌, List, [], ◌∷◌, ◌++◌, length, take, drop, Result, Ok, Err, refl, sym, ap, subst, ◌∙◌, arith, append_assoc, length-append}
+use Rattle.std.proofs.Common.{◌≡◌, ℕ, ◌+◌, ◌-◌, ◌*◌, ◌<◌, ◌≤◌, leb, true, false, Bool, ◌&&◌, List, [], ◌∷◌, ◌++◌, length, take, drop, Result, Ok, Err, refl, sym, ap, subst, ◌∙◌, arith, append_assoc}
 use Rattle.std.specs.Prelude.{⊤}
 use Rattle.std.proofs.Math.Seq.{take-add}
 use Rattle.std.proofs.lemmas.Bool.{le-leb, leb-true, lt-leb}
-use Rattle.std.proofs.lemmas.List.{drop-drop, drop-append-le, length-take-le, length-drop}
+use Rattle.std.proofs.lemmas.List.{drop-drop, drop-append-le, length-take-le}
 use Rattle.l3_bits.specs.Bits.{bits_of, digits}
 use Rattle.l3_bits.proofs.Places.{length-bits_of}
 use Rattle.l3_base.specs.declared.settings.Settings.{Settings}
@@ -14,7 +14,7 @@ use Rattle.l3_stream.specs.declared.fault.StreamFault.TheVariants as faults
 use Rattle.l3_stream.specs.declared.unit.Unit.{Unit}
 use Rattle.l3_stream.specs.Units.{lengths}
 use Rattle.l3_stream.specs.Tape.{start_of}
-use Rattle.l3_stream.specs.Faults.{◌>>=◌, checked, clear}
+use Rattle.l3_stream.specs.Faults.{checked, clear}
 use Rattle.l3_stream.specs.UnitReading.{main_units_at}
 use Rattle.l3_stream.specs.Deviation.{Place, main_at}
 use Rattle.l3_stream.proofs.Steps.{bind_again, checked_again}

@@ -1,7 +1,7 @@
 -- The lines of a unit: those of pairs, those of quadruples, and zeros.
-use Rattle.std.proofs.Common.{◌≡◌, ℕ, ◌+◌, ◌-◌, ◌*◌, ◌/◌, ◌<◌, ◌≤◌, List, [], ◌++◌, length, take, drop, replicate, Ok, refl, sym, ap, ◌∙◌, arith, append_assoc, length-append}
+use Rattle.std.proofs.Common.{◌≡◌, ℕ, ◌+◌, ◌-◌, ◌*◌, ◌/◌, ◌≤◌, List, [], ◌++◌, length, take, drop, replicate, sym, ap, ◌∙◌, arith}
 use Rattle.std.specs.Prelude.{ℤ, pos}
-use Rattle.std.proofs.lemmas.List.{drop-drop, drop-replicate, length-replicate, take_at, drop_at, take_all, take-append-drop, length-take-le, length-drop, append-nil}
+use Rattle.std.proofs.lemmas.List.{drop-replicate, length-replicate, take_at, drop_at, take_all, take-append-drop, length-take-le, append-nil}
 use borrow.Rule.Slice.PartMut.{put_mid, mid_of, post_of}
 use Rattle.l3_stream.specs.declared.unit.Unit.{Unit}
 use Rattle.l3_stream.specs.Units.{zero_lines}

@@ -1,6 +1,6 @@
 -- A frame from a source, and the frames from a place on.
-use Rattle.std.proofs.Common.{◌≡◌, ℕ, zero, suc, ◌+◌, ◌-◌, ◌*◌, ◌<◌, ◌≤◌, leb, true, false, Bool, List, [], ◌∷◌, ◌++◌, length, take, drop, Option, Some, None, Result, Ok, Err, refl, sym, ap, subst, ◌∙◌, arith, append_assoc, length-append, inl, inr}
-use Rattle.std.specs.Prelude.{IfSome, IfNone, IfErr, ⊤}
+use Rattle.std.proofs.Common.{◌≡◌, ℕ, ◌+◌, ◌-◌, ◌<◌, ◌≤◌, leb, true, false, List, [], ◌++◌, length, take, drop, Option, Some, None, Result, Err, refl, sym, ap, subst, ◌∙◌, arith, append_assoc, length-append}
+use Rattle.std.specs.Prelude.{IfSome, IfNone, IfErr}
 use Rattle.std.proofs.lemmas.Bool.{le-leb, lt-leb}
 use Rattle.std.proofs.lemmas.List.{take_at, take_all, append-nil, length-drop, length-take-le}
 use borrow.Rule.Slice.PartMut.{put_mid}
@@ -12,15 +12,13 @@ use Rattle.l3_stream.specs.declared.fault.StreamFault.{StreamFault}
 use Rattle.l3_stream.specs.declared.fault.StreamFault.TheVariants as faults
 use Rattle.l3_stream.specs.declared.unit.ChosenFrame.{ChosenFrame}
 use Rattle.l3_stream.specs.Fields.{same}
-use Rattle.l3_stream.specs.Frames.{placed}
 use Rattle.l3_stream.specs.Header.{header_at}
-use Rattle.l3_stream.specs.Faults.{◌>>=◌, checked, clear}
-use Rattle.l3_stream.specs.Deviation.{Place, head_at, slot_at, main_at, next_place, frames_from, first_place}
+use Rattle.l3_stream.specs.Faults.{checked}
+use Rattle.l3_stream.specs.Deviation.{Place, head_at}
 use Rattle.l3_stream.proofs.Steps.{bind_again, checked_again}
-use Rattle.l3_stream.proofs.Header.{frame_size}
 use Rattle.l3_stream.proofs.Locality.{frame_is_local}
 use Rattle.l3_reader.specs.Answer.{Explains}
-use Rattle.l3_reader.specs.Steps.{frame_at, ReadsFront, BeginsWith, NoHeader}
+use Rattle.l3_reader.specs.Steps.{frame_at, ReadsFront}
 use Rattle.l3_reader.proofs.UnitSteps.{bind_bad}
 use Rattle.l3_reader.proofs.MainSteps.{checked_bad}
 use Rattle.l3_reader.proofs.Loops.{length-put_mid}

@@ -1,5 +1,5 @@
 -- What the reader of a stream answers.
-use Rattle.std.specs.Prelude.{◌≡◌, ⊤, Result, Ok, Err}
+use Rattle.std.specs.Prelude.{◌≡◌, ⊤, Result, Err}
 use Rattle.l3_stream.specs.declared.fault.StreamFault.{StreamFault}
 use Rattle.l3_stream.specs.declared.fault.StreamFault.TheVariants as faults
 use Rattle.l3_stream.specs.Deviation.{Content}

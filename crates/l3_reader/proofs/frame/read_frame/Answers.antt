@@ -1,4 +1,4 @@
-use Rattle.std.proofs.Common.{◌≡◌, ◌+◌, ◌-◌, ◌≤◌, ◌<◌, ◌^◌, ℕ, List, length, take, drop, Result, Err, Ok, Some, sym, ap, subst, ◌∙◌, refl, arith, rules}
+use Rattle.std.proofs.Common.{◌≡◌, ◌-◌, ◌<◌, ◌^◌, ℕ, List, length, take, drop, Result, Err, Ok, Some, sym, ap, subst, ◌∙◌, refl, arith, rules}
 use Rattle.std.specs.Prelude.{All}
 use Rattle.std.proofs.lemmas.List.{length-take-le, length-drop}
 use Rattle.std.proofs.lemmas.List.Elements.{All-from_get_or}
@@ -8,8 +8,7 @@ use Rattle.l3_stream.specs.declared.unit.Unit.{Unit}
 use Rattle.l3_stream.specs.declared.unit.ChosenFrame.{ChosenFrame}
 use Rattle.l3_stream.specs.Frames.{units_of, placed, IsCoded}
 use Rattle.l3_stream.specs.Deviation.{Place, main_at, slot_at, next_place}
-use Rattle.l3_stream.proofs.FrameReading.{AreBytes}
-use Rattle.l3_reader.specs.Steps.{frame_at, place_of, slot_of, IsKept}
+use Rattle.l3_reader.specs.Steps.{frame_at, place_of, slot_of}
 use Rattle.l3_reader.proofs.UnitSteps.{gives_err}
 use Rattle.l3_reader.proofs.FrameSteps.{frame_bad_side, frame_bad_main, frame_read, frame_coded, slot_part, side_part, appended_place, appended_kept, appended_slot, kept_place, passed_place, passed_kept, end_within, frame_made}
 use Rattle.l3_reader.proofs.Own.{own_frame, own_fault, not_read}

@@ -1,16 +1,13 @@
-use Rattle.std.proofs.Common.{◌≡◌, ◌+◌, ◌-◌, ◌≤◌, ◌<◌, ◌++◌, ◌∷◌, [], ℕ, zero, suc, List, length, get_or, Err, Ok, Some, None, sym, ap, subst, refl, ◌∙◌, arith, rules, length-append}
-use Rattle.std.specs.Prelude.{All, IfErr, IfSome}
+use Rattle.std.proofs.Common.{◌≡◌, ◌<◌, ◌++◌, ◌∷◌, [], ℕ, zero, suc, List, length, get_or, Err, Some, sym, ap, subst, refl, ◌∙◌, arith, rules, length-append}
+use Rattle.std.specs.Prelude.{All, IfSome}
 use Rattle.std.proofs.lemmas.List.Elements.{All-append, All-from_get_or}
-use Rattle.l3_io.specs.Causes.{Rose}
 use Rattle.l3_stream.specs.declared.unit.ChosenFrame.{ChosenFrame}
 use Rattle.l3_stream.specs.Frames.{IsCoded}
 use Rattle.l3_stream.specs.Faults.{clear}
-use Rattle.l3_stream.specs.Deviation.{frames_from, first_place}
-use Rattle.l3_reader.specs.Answer.{Explains}
 use Rattle.l3_reader.specs.Steps.{place_of, BeginsWith, NoHeader}
 use Rattle.l3_reader.proofs.Own.{own_clear, own_fault, not_read}
 use Rattle.l3_reader.proofs.WholeSteps.{refused_by, if_none, if_some}
-use Rattle.l3_reader.proofs.FrameLoop.{said, Stands, stands_first, frame_fault, frame_passed, header_read, header_fault, end_read, end_fault, end_rest, memory_told}
+use Rattle.l3_reader.proofs.FrameLoop.{said, Stands, stands_first, frame_fault, frame_passed, header_read, header_fault, end_read, end_fault, memory_told}
 use Rattle.l3_reader.proofs.frames.read_frames.Goals as goal
 
 pub loop-frames-init : goal.loop-frames-init

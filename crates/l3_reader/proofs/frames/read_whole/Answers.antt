@@ -1,6 +1,5 @@
-use Rattle.std.proofs.Common.{◌≡◌, ◌+◌, ◌-◌, ◌≤◌, ◌<◌, ◌++◌, ℕ, List, length, take, drop, true, false, Err, Ok, sym, ap, subst, ◌∙◌, arith, rules}
-use Rattle.std.specs.Prelude.{IfErr, IfSome, replicate}
-use Rattle.std.proofs.lemmas.List.{length-replicate, take_at, length-append, length-drop, length-take-le}
+use Rattle.std.proofs.Common.{◌≡◌, ◌-◌, ◌++◌, ℕ, length, take, true, false, Err, sym, ap, ◌∙◌, arith, rules}
+use Rattle.std.proofs.lemmas.List.{length-replicate, take_at, length-append}
 use Rattle.l3_bits.specs.Bits.{bits_of}
 use Rattle.l3_stream.specs.Fields.{same}
 use Rattle.l3_stream.specs.Header.{header_at}

@@ -1,6 +1,5 @@
-use Rattle.std.proofs.Common.{◌≡◌, ◌+◌, ◌-◌, ◌*◌, ◌<◌, ◌≤◌, ◌∙◌, ap, subst, sym, length, take, Err, Ok, arith, rules}
+use Rattle.std.proofs.Common.{◌≡◌, ◌+◌, ◌*◌, ◌∙◌, ap, sym, length, take, Err, arith, rules}
 use Rattle.std.proofs.lemmas.List.{length-take-le}
-use Rattle.l3_stream.specs.Units.{lengths}
 use Rattle.l3_stream.specs.Frames.{units_of}
 use Rattle.l3_reader.proofs.UnitSteps.{gives_err}
 use Rattle.l3_reader.proofs.MainSteps.{kept_bad_begin, kept_not_zero, kept_too_long, kept_units, kept_goes}

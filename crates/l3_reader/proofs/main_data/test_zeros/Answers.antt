@@ -1,9 +1,7 @@
-use Rattle.std.proofs.Common.{◌≡◌, ◌+◌, ◌*◌, ◌/◌, ◌<◌, ◌∙◌, sym, length, drop, arith, rules}
+use Rattle.std.proofs.Common.{◌+◌, ◌/◌, ◌<◌, ◌∙◌, sym, length, drop, arith, rules}
 use Rattle.std.proofs.lemmas.List.{length-drop}
 use Rattle.l3_bits.specs.Bits.{bits_of}
 use Rattle.l3_bits.proofs.Places.{length-bits_of}
-use Rattle.l3_huff.specs.Words.{between}
-use Rattle.l3_stream.specs.Faults.{clear}
 use Rattle.l3_reader.proofs.Zeros.{zeros_passed, one_found, none_left, byte_zero, bit_zero, bit_one}
 use Rattle.l3_reader.proofs.main_data.test_zeros.Goals as goal
 

@@ -1,4 +1,4 @@
-use Rattle.std.proofs.Common.{◌≡◌, ◌+◌, ◌∙◌, ap, subst, sym, length, arith}
+use Rattle.std.proofs.Common.{◌≡◌, ◌∙◌, ap, subst, sym, length, arith}
 use Rattle.l3_base.specs.declared.rate.Channels.{Channels}
 use Rattle.l3_stream.specs.Units.{lengths}
 use Rattle.l3_stream.specs.Frames.{placed, units_of, units_number}

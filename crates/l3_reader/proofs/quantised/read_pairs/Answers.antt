@@ -1,8 +1,6 @@
-use Rattle.std.proofs.Common.{◌≡◌, ◌+◌, ◌-◌, ◌*◌, ◌/◌, ◌≤◌, ◌<◌, ℕ, ◌++◌, ◌∷◌, [], take, set, length, Ok, arith, ap, ◌∙◌, subst, sym, w16, rules, FitsSigned, List}
+use Rattle.std.proofs.Common.{◌≡◌, ◌+◌, ◌-◌, ◌*◌, ◌/◌, ◌<◌, ℕ, ◌++◌, ◌∷◌, [], take, set, length, Ok, arith, ap, ◌∙◌, subst, sym, w16, rules, FitsSigned}
 use Rattle.std.proofs.lemmas.Int.{to_z-of_z}
 use Rattle.std.proofs.lemmas.List.{length-set, take_all}
-use Rattle.std.specs.Prelude.{ℤ}
-use Rattle.l3_bits.specs.Bits.{bits_of}
 use Rattle.l3_huff.specs.Tables.{IsTable}
 use Rattle.l3_huff.specs.Words.{between}
 use Rattle.l3_huff.proofs.Betweens.{length-between}

@@ -1,5 +1,4 @@
-use Rattle.std.proofs.Common.{◌≡◌, ◌+◌, ◌-◌, ◌*◌, ◌/◌, ◌≤◌, ◌<◌, ℕ, ◌++◌, [], take, drop, length, Ok, arith, ap, sym, ◌∙◌, rules, List}
-use Rattle.std.specs.Prelude.{ℤ}
+use Rattle.std.proofs.Common.{◌≡◌, ◌+◌, ◌-◌, ◌*◌, ◌/◌, ◌≤◌, ◌++◌, take, length, arith, ap, sym, ◌∙◌, rules}
 use Rattle.std.proofs.lemmas.Slice.{take-put_mid, drop-put_mid}
 use Rattle.l3_huff.specs.Words.{between}
 use Rattle.l3_huff.proofs.Betweens.{length-between}

@@ -1,5 +1,5 @@
-use Rattle.std.proofs.Common.{◌≡◌, ◌<◌, [], ℕ, List, length, Err, Ok, Some, None, sym, ap, subst, ◌∙◌, arith, rules}
-use Rattle.std.specs.Prelude.{IfErr, IfSome}
+use Rattle.std.proofs.Common.{◌≡◌, ◌<◌, [], length, Err, Ok, Some, None, sym, subst, arith, rules}
+use Rattle.std.specs.Prelude.{IfSome}
 use Rattle.l3_stream.specs.Deviation.{reading_of}
 use Rattle.l3_reader.specs.Steps.{BeginsWith, NoHeader}
 use Rattle.l3_reader.proofs.WholeSteps.{refused_by, if_none, if_some}

@@ -1,5 +1,4 @@
-use Rattle.std.proofs.Common.{◌≡◌, length, arith, rules, Err}
-use Rattle.l3_stream.specs.declared.unit.Unit.{Unit}
+use Rattle.std.proofs.Common.{◌≡◌, arith, rules, Err}
 use Rattle.l3_stream.specs.Frames.{blank}
 use Rattle.l3_reader.proofs.UnitSteps.{gives_err}
 use Rattle.l3_reader.proofs.Granules.{mono_steps, nothing}

@@ -1,7 +1,6 @@
-use Rattle.std.proofs.Common.{◌≡◌, ◌+◌, ◌-◌, ◌*◌, ◌/◌, ◌≤◌, ℕ, List, ◌++◌, length, take, sym, ap, ◌∙◌, arith, rules, Ok, Err}
-use Rattle.std.specs.Prelude.{ℤ}
+use Rattle.std.proofs.Common.{◌≡◌, ◌+◌, ◌-◌, ◌*◌, ◌/◌, ◌≤◌, ◌++◌, length, take, sym, ap, ◌∙◌, arith, rules, Ok, Err}
 use Rattle.std.proofs.lemmas.List.{length-take-le}
-use borrow.Rule.Slice.PartMut.{put_mid, mid_of, post_of}
+use borrow.Rule.Slice.PartMut.{mid_of, post_of}
 use Rattle.l3_huff.specs.Words.{between}
 use Rattle.l3_stream.specs.Units.{table_at, zero_lines}
 use Rattle.l3_stream.specs.UnitReading.{pairs_at, quads_at, unit_at}

@@ -1,5 +1,4 @@
-use Rattle.std.proofs.Common.{arith, rules}
-use Rattle.std.proofs.lemmas.Grind.{common_steps}
+use Rattle.std.proofs.Common.{rules}
 use Rattle.l3_reader.specs.Steps.{table_by}
 use Rattle.l3_reader.proofs.quantised.Regions.table.Goals as goal
 

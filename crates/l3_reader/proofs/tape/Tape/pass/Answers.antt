@@ -1,4 +1,4 @@
-use Rattle.std.proofs.Common.{◌≡◌, ◌+◌, ◌-◌, ◌*◌, ◌/◌, ◌≤◌, length, take, drop, sym, ap, ◌∙◌, arith}
+use Rattle.std.proofs.Common.{◌+◌, ◌-◌, ◌/◌, take, ap, ◌∙◌, arith}
 use Rattle.l3_reader.proofs.Moved.{moved}
 use Rattle.l3_reader.proofs.tape.Tape.pass.Goals as goal
 

@@ -1,4 +1,4 @@
-use Rattle.std.proofs.Common.{◌≡◌, ℕ, length, replicate, ap, ◌∙◌, refl, arith}
+use Rattle.std.proofs.Common.{ℕ, length, ap, ◌∙◌, refl, arith}
 use Rattle.std.proofs.lemmas.List.{length-replicate}
 use Rattle.l3_base.specs.Lengths.{slots_before}
 use Rattle.l3_reader.proofs.tape.Tape.start.Goals as goal
