@@ -20,4 +20,6 @@ pub use regions::{Regions, best};
 pub use split::{Split, split_of};
 
 #[cfg(test)]
+mod plain;
+#[cfg(test)]
 mod tests;
