@@ -1,4 +1,4 @@
-ghost use Rattle.std.specs.Prelude.{◌≡◌, ◌≤◌, ◌<◌, IfOk, IfSome, None, vec_len};
+ghost use Rattle.std.specs.Prelude.{◌≡◌, ◌≤◌, ◌<◌, All, IfOk, IfSome, None, vec_len};
 ghost use Rattle.std.specs.Thread.{IsSync};
 
 use crate::LaneBoard;
@@ -8,7 +8,7 @@ use l3_core::{Claim, Deposit, Numbered, Offer, Take};
 use std::alloc::{AllocError, Global};
 use std::sync::Wait;
 use std::test::Fail;
-use std::thread::{Threads, join_mut};
+use std::thread::{Threads, for_each_mut, join_mut, yield_now};
 
 // An item of a granule, with a mark of its own.
 #[derive(Drop)]
@@ -131,7 +131,15 @@ fn board_of_one_cell(rt: HostRuntime) -> Result<(), Fail> {
     Ok(())
 }
 
-// A worker, at any board: it claims and hands in, until the board is shut.
+// What becomes of a granule, whoever works on it. It takes a while, so that the others get on.
+fn worked(number: u64) -> u64 {
+    for _ in 0..1000 {
+        yield_now();
+    }
+    number.saturating_mul(7).saturating_add(3)
+}
+
+// A worker, at any board: it claims, works and hands in, until the board is shut.
 fn work<B: Board<Item = Item>, R: Wait>(rt: &R, board: &B, seat: &mut B::Seat)
     requires made { B.has_seat board.now seat.old }
     requires free { B.claimed seat.old ≡ None }
@@ -139,7 +147,7 @@ fn work<B: Board<Item = Item>, R: Wait>(rt: &R, board: &B, seat: &mut B::Seat)
     for _ in rt.forever() {
         match board.claim_wait(rt, seat) {
             Claim::Job(item) => {
-                let _ = board.deposit(seat, item);
+                let _ = board.deposit(seat, marked(item.number, worked(item.number)));
             }
             _ => return,
         }
@@ -147,59 +155,122 @@ fn work<B: Board<Item = Item>, R: Wait>(rt: &R, board: &B, seat: &mut B::Seat)
     unreachable!()
 }
 
-// A desk, at any board: it offers granules, takes each at once, and shuts the board. How many were placed and how many
-// found on the board.
-fn offer_and_take<B: Board<Item = Item>>(board: &B, desk: &mut B::Desk, granules: u64) -> (u64, u64)
+// A worker for each seat.
+fn work_all<B: Board<Item = Item> + Sync, R: Threads + Wait + Sync>(
+    rt: &R,
+    board: &B,
+    seats: &mut [B::Seat],
+)
+    requires { All (λ seat. B.has_seat board.now seat × (B.claimed seat ≡ None)) seats.old }
+{
+    if seats.is_empty() {
+        return;
+    }
+    let count = seats.len();
+    for_each_mut(
+        rt,
+        seats,
+        count,
+        &|_, seat|
+            requires { B.has_seat board.now seat.old × (B.claimed seat.old ≡ None) }
+        { work(rt, board, seat) },
+    );
+}
+
+// What a desk has placed, what it has found on the board, and the sum of what became of all.
+#[derive(Drop)]
+struct Tally {
+    placed: u64,
+    found: u64,
+    sum: u64,
+}
+
+// Offers a granule, which nobody has worked on.
+fn offer_next<B: Board<Item = Item>>(board: &B, desk: &mut B::Desk, number: u64, tally: &mut Tally)
+    requires made { B.has_desk board.now desk.old }
+    requires limit { number ≤ 8589934592 }
+    ensures made { B.has_desk board.now desk.new }
+{
+    if let Offer::Placed(_) = board.offer(desk, marked(number, 0)) {
+        tally.placed = tally.placed.saturating_add(1);
+    }
+}
+
+// Takes a granule, and works on it where no worker has done so.
+fn take_next<B: Board<Item = Item>>(
+    board: &B,
+    desk: &mut B::Desk,
+    number: GranuleNo,
+    tally: &mut Tally,
+)
+    requires made { B.has_desk board.now desk.old }
+    ensures made { B.has_desk board.now desk.new }
+{
+    let (found, mark) = match board.take(desk, number, marked(0, 0)) {
+        Take::Got(item) => (1, item.mark),
+        Take::Revoked(_) | Take::InWork(_) => (1, worked(number.get())),
+        Take::NotOffered(_) => (0, worked(number.get())),
+    };
+    tally.found = tally.found.saturating_add(found);
+    tally.sum = tally.sum.saturating_add(mark);
+}
+
+// A desk, at any board: it offers granules, up to three beyond the next, takes them in order, and shuts the board.
+fn offer_and_take<B: Board<Item = Item>>(board: &B, desk: &mut B::Desk, granules: u64) -> Tally
     requires made { B.has_desk board.now desk.old }
     requires limit { granules ≤ 8589934592 }
 {
-    let (mut placed, mut found) = (0u64, 0u64);
-    for number in 0..granules {
-        let Some(granule) = GranuleNo::new(number) else {
-            return (placed, found);
-        };
-        if let Offer::Placed(_) = board.offer(desk, marked(number, 1)) {
-            placed = placed.saturating_add(1);
+    let mut tally = Tally {
+        placed: 0,
+        found: 0,
+        sum: 0,
+    };
+    for number in 0..granules.saturating_add(3) {
+        if number < granules {
+            offer_next(board, desk, number, &mut tally);
         }
-        match board.take(desk, granule, marked(0, 2)) {
-            Take::NotOffered(_) => {}
-            _ => found = found.saturating_add(1),
+        if let Some(next) = number.checked_sub(3).and_then(GranuleNo::new) {
+            take_next(board, desk, next, &mut tally);
         }
     }
     board.shut(desk);
-    (placed, found)
+    tally
 }
 
-// A worker beside the desk.
+// The desk beside a worker for each seat.
 fn share<B: Board<Item = Item> + Sync, R: Threads + Wait + Sync>(
     rt: &R,
     board: &B,
     desk: &mut B::Desk,
-    seat: &mut B::Seat,
-) -> (u64, u64)
+    seats: Vec<B::Seat>,
+) -> Tally
     requires desk { B.has_desk board.now desk.old }
-    requires seat { B.has_seat board.now seat.old }
-    requires free { B.claimed seat.old ≡ None }
+    requires seats { All (λ seat. B.has_seat board.now seat × (B.claimed seat ≡ None)) seats.items }
 {
-    let (_, counts) = join_mut(
+    let mut seats = seats;
+    let row = seats.as_mut_slice();
+    let (_, tally) = join_mut(
         rt,
         &mut ||
-            requires { IsSync R.row × IsSync B.row × B.has_seat board.now seat.now × (B.claimed seat.now ≡ None) }
-        { work(rt, board, seat) },
-        &mut || -> (u64, u64)
+            requires { IsSync R.row × IsSync B.row × All (λ seat. B.has_seat board.now seat × (B.claimed seat ≡ None)) row.now }
+        { work_all(rt, board, row) },
+        &mut || -> Tally
             requires { B.has_desk board.now desk.now }
         { offer_and_take(board, desk, 100) },
     );
-    counts
+    tally
 }
 
+// Granule n becomes 7 n + 3, so all from 0 to 99 come to 7 * 4950 + 300, on one thread as on any number.
 #[test]
-fn worker_beside_the_desk(rt: HostRuntime) -> Result<(), Fail> {
-    let blanks = blanks(rt.alloc(), 4)?.ok_or("no blanks")?;
-    let (board, mut desk, mut seats) = LaneBoard::new(rt.alloc(), 1, blanks)?;
-    let mut seat = seats.pop().ok_or("no seat")?;
-    let (placed, found) = share(&rt, &board, &mut desk, &mut seat);
-    assert!(rt; placed >= 4);
-    assert_eq!(rt; found, placed);
+fn workers_beside_the_desk(rt: HostRuntime) -> Result<(), Fail> {
+    for workers in [1, 3] {
+        let blanks = blanks(rt.alloc(), 4)?.ok_or("no blanks")?;
+        let (board, mut desk, seats) = LaneBoard::new(rt.alloc(), workers, blanks)?;
+        let tally = share(&rt, &board, &mut desk, seats);
+        assert!(rt; tally.placed >= 4);
+        assert_eq!(rt; tally.found, tally.placed);
+        assert_eq!(rt; tally.sum, 34950);
+    }
     Ok(())
 }
