@@ -79,7 +79,7 @@ times_neg : (a j : ℕ) → pos a *ℤ neg_ℤ (pos j) ≡ neg_ℤ (pos a *ℤ p
 times_neg a zero = omega (arith, ints)
 times_neg a (suc j) = refl
 
-periods : (n : ℕ) (m : ℤ) → cosine64 (m +ℤ pos (128 * n)) ≡ cosine64 m
+pub periods : (n : ℕ) (m : ℤ) → cosine64 (m +ℤ pos (128 * n)) ≡ cosine64 m
 periods zero m = ap cosine64 (omega (arith, ints))
 periods (suc n) m =
     let next : m +ℤ pos (128 * suc n) ≡ m +ℤ pos (128 * n) +ℤ pos 128 = omega (arith, ints) in
@@ -94,7 +94,7 @@ left_is a j le =
     let place : pos (16 - j) -ℤ pos 16 ≡ neg_ℤ (pos j) = omega (arith, ints) in
     ap (λ z. cosine64 (pos a *ℤ z)) place ∙ (ap cosine64 (times_neg a j) ∙ extended64.even (pos a *ℤ pos j))
 
-shifted : (p q n : ℕ) → p + q ≡ 64 + n → pos p ≡ pos 64 -ℤ pos q +ℤ pos n
+pub shifted : (p q n : ℕ) → p + q ≡ 64 + n → pos p ≡ pos 64 -ℤ pos q +ℤ pos n
 shifted p q n e = omega (arith, ints)
 
 -- terms put in order

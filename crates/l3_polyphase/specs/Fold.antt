@@ -1,4 +1,5 @@
--- The fold of 64 columns to 32: the cosines repeat about column 16, and with the other sign about column 48.
+-- The folds of a subband's sum: of 64 columns to 32, since the cosines repeat about column 16, and with the other sign about column 48;
+-- and of two subbands to one, since those of subband n - 1 - i are those of subband i, with the other sign at every other column.
 use Rattle.std.specs.Prelude.{ℕ, ◌+◌, ◌-◌, ◌*◌, nat_le, nat_eq, if◌then◌else◌, ℤ, pos, ◌+ℤ◌, ◌-ℤ◌, ◌*ℤ◌}
 use Rattle.l3_tables.specs.Sums.{sum_below}
 use Rattle.l3_tables.specs.Cosines.{cosine64}
@@ -12,3 +13,7 @@ folded y j =
 -- the 32 columns, each times its cosine for subband i
 unfoldable pub folded_sum : (ℕ → ℤ) → ℕ → ℤ
 folded_sum u i = sum_below 32 (λ j. cosine64 (pos (2 * i + 1) *ℤ pos j) *ℤ u j)
+
+-- every step-th of them, from column `start`, so many in all
+unfoldable pub part_sum : ℕ → ℕ → ℕ → (ℕ → ℤ) → ℕ → ℤ
+part_sum start step count u i = sum_below count (λ m. cosine64 (pos (2 * i + 1) *ℤ pos (start + step * m)) *ℤ u (start + step * m))

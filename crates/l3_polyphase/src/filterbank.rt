@@ -3,9 +3,9 @@ ghost use Rattle.l3_base.specs.Slots.{slot_in};
 ghost use Rattle.l3_tables.specs.Lists.{entry, tabulate};
 ghost use Rattle.l3_tables.specs.Sums.{IsWithin};
 ghost use Rattle.l3_tables.specs.Filterbank.{slot_sum, slots_of, turned};
-ghost use Rattle.l3_polyphase.specs.Samples.{HasShape};
+ghost use Rattle.l3_polyphase.specs.Samples.{HasShape, before_newest};
 
-use crate::columns::{subbands, subbands_newest_first};
+use crate::subbands::subbands;
 use l3_base::Slots36;
 
 /// The slots of the 32 subbands of 512 samples, the newest first.
@@ -15,7 +15,19 @@ pub fn slot(window: &[i16; 512], out: &mut [i32; 32])
     ensures value { out.new ≡ tabulate 32 (slot_sum (entry window.now)) }
     ensures bound { All (IsWithin 44598016) out.new }
 {
-    subbands_newest_first(window, out);
+    subbands(&in_time(window), out);
+}
+
+/// 512 samples, the newest first, in order of time.
+fn in_time(window: &[i16; 512]) -> [i16; 512]
+    ensures value { (n : ℕ) → n < 512 → before_newest result n ≡ entry window.now n }
+    ensures long { length result ≡ 512 }
+{
+    let mut samples = [0i16; 512];
+    for n in 0..512 {
+        samples[n] = window[511 - n];
+    }
+    samples
 }
 
 /// The 36 slots of the 32 subbands of a granule's window, in order of time.

@@ -4,9 +4,11 @@
 //! It is the analysis filterbank of ISO/IEC 11172-3 over this project's own integer tables and with its own rounding.
 #![tactic(auto)]
 
+mod coefficients;
 mod columns;
 mod filterbank;
 mod fold;
+mod subbands;
 
 pub use filterbank::{slot, slots36};
 

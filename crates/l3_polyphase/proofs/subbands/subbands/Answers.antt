@@ -3,7 +3,7 @@ use Rattle.l3_tables.specs.Sums.{IsWithin}
 use Rattle.l3_polyphase.specs.Samples.{before_newest}
 use Rattle.l3_polyphase.proofs.ColumnSlots.{slots_of_columns-are}
 use Rattle.l3_polyphase.proofs.WindowSlots.{tabulated_small}
-use Rattle.l3_polyphase.proofs.columns.subbands.Goals as goal
+use Rattle.l3_polyphase.proofs.subbands.subbands.Goals as goal
 
 pub returns-clause-value : goal.returns-clause-value
 returns-clause-value c = slots_of_columns-are (before_newest c.args.samples.now) c.columns-sums.result c.slots_of_columns.new.out c.slots_of_columns.ensures.long c.columns-sums.ensures.value c.slots_of_columns.ensures.value

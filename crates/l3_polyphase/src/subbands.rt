@@ -1,0 +1,91 @@
+ghost use Rattle.std.specs.Prelude.{◌≡◌, ◌+◌, ◌*◌, ◌<◌, ◌≤◌, ◌^◌, ℕ, All, ◌+ℤ◌, pos, length};
+ghost use Rattle.l3_tables.specs.Lists.{entry, tabulate};
+ghost use Rattle.l3_tables.specs.Sums.{floor_div, IsWithin};
+ghost use Rattle.l3_tables.specs.Filterbank.{subband_sum, slot_sum};
+ghost use Rattle.l3_polyphase.specs.Fold.{folded_sum, part_sum};
+ghost use Rattle.l3_polyphase.specs.Samples.{before_newest, column_in};
+
+use crate::coefficients::cosine;
+use crate::columns::columns;
+use crate::fold::fold64;
+use l3_tables::add_product;
+
+/// Every `step`-th folded column from `start`, `count` of them, each times its cosine for subband `i`, added up.
+#[inline(always)]
+fn part(columns: &[i64; 32], i: usize, start: usize, step: usize, count: usize) -> i64
+    requires subband { i < 16 }
+    requires places { (m : ℕ) → m < count → start + step * m < 32 }
+    requires few { count ≤ 16 }
+    requires small { (j : ℕ) → j < 32 → IsWithin (2 ^ 36) (entry columns.now j) }
+    ensures value { result ≡ part_sum start step count (entry columns.now) i }
+    ensures bound { IsWithin (count * (32768 * 2 ^ 36)) result }
+{
+    let mut sum = 0i64;
+    for m in 0..count {
+        let j = start + step * m;
+        sum = add_product(sum, i64::from(cosine(i, j)), columns[j]);
+    }
+    sum
+}
+
+/// The sums of the 16 even folded columns, for the lower 16 subbands.
+///
+/// They fold once more: subband 15 - i has the products of subband i, every other one with the other sign.
+fn even_sums(columns: &[i64; 32]) -> [i64; 16]
+    requires { (j : ℕ) → j < 32 → IsWithin (2 ^ 36) (entry columns.now j) }
+    ensures value { (i : ℕ) → i < 16 → entry result i ≡ part_sum 0 2 16 (entry columns.now) i }
+    ensures small { (i : ℕ) → i < 16 → IsWithin (2 ^ 55) (entry result i) }
+{
+    let mut sums = [0i64; 16];
+    for i in 0..8 {
+        let first = part(columns, i, 0, 4, 8);
+        let second = part(columns, i, 2, 4, 8);
+        sums[i] = first + second;
+        sums[15 - i] = first - second;
+    }
+    sums
+}
+
+/// A sum over 2^27, to the nearest.
+#[inline(always)]
+fn rounded(sum: i64) -> i32
+    requires { IsWithin (2 ^ 57) sum }
+    ensures { result ≡ floor_div (sum +ℤ pos (2 ^ 26)) (2 ^ 27) }
+{
+    ((sum + (1 << 26)) >> 27) as i32
+}
+
+/// The slots of the 32 subbands of 32 folded columns: subband 31 - i has the products of subband i, the odd ones with the other sign.
+fn slots_of_folded(columns: &[i64; 32], out: &mut [i32; 32])
+    requires { (j : ℕ) → j < 32 → IsWithin (2 ^ 36) (entry columns.now j) }
+    ensures long { length out.new ≡ 32 }
+    ensures value { (i : ℕ) → i < 32 → entry out.new i ≡ floor_div (folded_sum (entry columns.now) i +ℤ pos (2 ^ 26)) (2 ^ 27) }
+{
+    let even = even_sums(columns);
+    for i in 0..16 {
+        let odd = part(columns, i, 1, 2, 16);
+        out[i] = rounded(even[i] + odd);
+        out[31 - i] = rounded(even[i] - odd);
+    }
+}
+
+/// The slots of the 32 subbands of 64 columns, the last one first.
+fn slots_of_columns(sums: &[i64; 64], out: &mut [i32; 32])
+    requires small { (k : ℕ) → k < 64 → IsWithin (2 ^ 35) (column_in sums.now k) }
+    ensures long { length out.new ≡ 32 }
+    ensures value { (i : ℕ) → i < 32 → entry out.new i ≡ floor_div (subband_sum (column_in sums.now) i +ℤ pos (2 ^ 26)) (2 ^ 27) }
+{
+    let mut folded = [0i64; 32];
+    fold64(sums, &mut folded);
+    slots_of_folded(&folded, out);
+}
+
+/// The slots of the 32 subbands of 512 samples in order of time.
+pub(crate) fn subbands(samples: &[i16], out: &mut [i32; 32])
+    requires { length samples.now ≡ 512 }
+    ensures value { out.new ≡ tabulate 32 (slot_sum (before_newest samples.now)) }
+    ensures bound { All (IsWithin 44598016) out.new }
+{
+    let sums = columns(samples);
+    slots_of_columns(&sums, out);
+}
