@@ -17,7 +17,7 @@ use Rattle.l3_mdct.specs.Spectrum.{windowed, line_cosine, line_from, line_before
 pub term_small : (a b : ℤ) (m n : ℕ) → unsigned_abs a ≤ m → unsigned_abs b ≤ n → unsigned_abs (a *ℤ b) ≤ m * n
 term_small a b m n left right = rw (unsigned_abs-mul a b) (mul-le-mul left right)
 
-abs_sub : (a b : ℤ) → unsigned_abs (a -ℤ b) ≤ unsigned_abs a + unsigned_abs b
+pub abs_sub : (a b : ℤ) → unsigned_abs (a -ℤ b) ≤ unsigned_abs a + unsigned_abs b
 abs_sub a b = grind (arith, ints)
 
 entry_small : (bound : ℕ) (xs : List ℤ) (k : ℕ) → All (IsWithin bound) xs → unsigned_abs (get_or xs k (pos 0)) ≤ bound

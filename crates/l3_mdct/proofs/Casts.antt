@@ -1,14 +1,11 @@
 -- Sums and products through the casts of the code.
-use Rattle.std.proofs.Common.{◌≡◌, ◌<◌, ℕ, ◌+◌, ◌*◌, ◌≤◌, ℤ, pos, ◌+ℤ◌, ◌-ℤ◌, ◌*ℤ◌, arith, refl, ap, ◌∙◌, to_z, of_z, w32, w64, FitsSigned}
-use Rattle.std.proofs.lemmas.Int.{ints, to_z-of_z, fits_signed_from_abs, unsigned_abs-mul}
+use Rattle.std.proofs.Common.{◌≡◌, ℕ, ◌*◌, ◌≤◌, ℤ, pos, ◌+ℤ◌, ◌-ℤ◌, ◌*ℤ◌, arith, ap, ◌∙◌, to_z, of_z, w32, w64, FitsSigned}
+use Rattle.std.proofs.lemmas.Int.{to_z-of_z, fits_signed_from_abs}
 use Rattle.std.specs.Prelude.{unsigned_abs}
-use Rattle.std.specs.Int.{int_div_euclid}
 use Rattle.l3_tables.specs.Sums.{floor_div}
 use Rattle.l3_tables.specs.Cosines.{cosine72}
 use Rattle.l3_tables.specs.Steps.{cs_at, ca_at}
 use Rattle.l3_tables.proofs.Entries.{within_same}
-use Rattle.l3_tables.proofs.SumLemmas.{abs_add}
-use Rattle.l3_tables.proofs.FloorLemmas.{floor_div_small, floor_div-euclid}
 
 -- a product of values of 32 bits
 pub product_is : (r x y b : ℤ) → FitsSigned w32 x → FitsSigned w32 y → r ≡ to_z w32 (of_z w32 x) *ℤ to_z w32 (of_z w32 y) → y ≡ b → r ≡ x *ℤ b
@@ -27,10 +24,9 @@ upper_sum_is k a b big small x y fits_a fits_b fits_big fits_small fits_x fits_y
     rw (to_z-of_z w64 x fits_x, to_z-of_z w64 y fits_y) (ap (λ z. z -ℤ y) first ∙ ap (λ z. b *ℤ cs_at k -ℤ z) second)
 
 -- a slot under the window
-pub windowed_sum_is : (slot : ℤ) (k : ℕ) (got coefficient product : ℤ) → k < 36 → FitsSigned w32 got → FitsSigned w32 coefficient → got ≡ slot → coefficient ≡ cosine72 (to_z w64 (of_z w64 (pos 35 -ℤ to_z w64 (of_z w64 (pos 2 *ℤ to_z w64 k))))) → product ≡ to_z w32 (of_z w32 got) *ℤ to_z w32 (of_z w32 coefficient) → product ≡ slot *ℤ cosine72 (pos 35 -ℤ pos (2 * k))
-windowed_sum_is slot k got coefficient product lt fits_got fits_coefficient same value e =
-    let steps : to_z w64 (of_z w64 (pos 35 -ℤ to_z w64 (of_z w64 (pos 2 *ℤ to_z w64 k)))) ≡ pos 35 -ℤ pos (2 * k) = omega (arith, ints) in
-    product_is product got coefficient (cosine72 (pos 35 -ℤ pos (2 * k))) fits_got fits_coefficient e (value ∙ ap cosine72 steps) ∙ ap (λ x. x *ℤ cosine72 (pos 35 -ℤ pos (2 * k))) same
+pub windowed_sum_is : (slot : ℤ) (k : ℕ) (got coefficient product : ℤ) → FitsSigned w32 got → FitsSigned w32 coefficient → got ≡ slot → coefficient ≡ cosine72 (pos 35 -ℤ pos (2 * k)) → product ≡ to_z w32 (of_z w32 got) *ℤ to_z w32 (of_z w32 coefficient) → product ≡ slot *ℤ cosine72 (pos 35 -ℤ pos (2 * k))
+windowed_sum_is slot k got coefficient product fits_got fits_coefficient same value e =
+    product_is product got coefficient (cosine72 (pos 35 -ℤ pos (2 * k))) fits_got fits_coefficient e value ∙ ap (λ x. x *ℤ cosine72 (pos 35 -ℤ pos (2 * k))) same
 
 -- a sum that may be rounded
 pub sum_fits : (s t : ℤ) → s ≡ t → unsigned_abs t ≤ 268435456 * 32768 → FitsSigned w64 s
@@ -47,17 +43,3 @@ rounded_is r s t fits e same = to_z-of_z w32 r fits ∙ (e ∙ ap (λ z. floor_d
 pub end_is : (f : ℤ → ℤ → ℤ) (r x y t : ℤ) → FitsSigned w32 r → FitsSigned w32 x → FitsSigned w32 y → r ≡ f (to_z w32 (of_z w32 x)) (to_z w32 (of_z w32 y)) → f x y ≡ t → to_z w32 (of_z w32 r) ≡ t
 end_is f r x y t fits fits_x fits_y e same =
     to_z-of_z w32 r fits ∙ (e ∙ (ap (λ z. f z (to_z w32 (of_z w32 y))) (to_z-of_z w32 x fits_x) ∙ (ap (f x) (to_z-of_z w32 y fits_y) ∙ same)))
-
--- a ninth of a sum, to the nearest
-pub ninth_is : (s r : ℤ) → unsigned_abs s ≤ 36 * (44598016 * 32768) → FitsSigned w64 r → r ≡ int_div_euclid (to_z w64 (of_z w64 (to_z w64 (of_z w64 (pos 2 *ℤ s)) +ℤ pos 294912))) (pos 589824) → to_z w32 (of_z w32 (to_z w64 (of_z w64 r))) ≡ floor_div (pos 2 *ℤ s +ℤ pos 294912) 589824
-ninth_is s r small fits e =
-    let twice : unsigned_abs (pos 2 *ℤ s) ≤ 178392064 * 589824 = rw (unsigned_abs-mul (pos 2) s) (omega arith) in
-    let fits_twice : FitsSigned w64 (pos 2 *ℤ s) = fits_signed_from_abs w64 (pos 2 *ℤ s) (omega arith) in
-    let both : unsigned_abs (pos 2 *ℤ s +ℤ pos 294912) ≤ 178392064 * 589824 + 294912 = omega (arith, abs_add (pos 2 *ℤ s) (pos 294912)) in
-    let fits_both : FitsSigned w64 (pos 2 *ℤ s +ℤ pos 294912) = fits_signed_from_abs w64 (pos 2 *ℤ s +ℤ pos 294912) (omega arith) in
-    let quotient : unsigned_abs (floor_div (pos 2 *ℤ s +ℤ pos 294912) 589824) ≤ 178392064 = floor_div_small (pos 2 *ℤ s +ℤ pos 294912) (pos 2 *ℤ s) 294912 589824 178392064 refl (omega arith) twice in
-    let fits_quotient : FitsSigned w32 (floor_div (pos 2 *ℤ s +ℤ pos 294912) 589824) = fits_signed_from_abs w32 (floor_div (pos 2 *ℤ s +ℤ pos 294912) 589824) (omega arith) in
-    let inner : to_z w64 (of_z w64 (to_z w64 (of_z w64 (pos 2 *ℤ s)) +ℤ pos 294912)) ≡ pos 2 *ℤ s +ℤ pos 294912 =
-    ap (λ z. to_z w64 (of_z w64 (z +ℤ pos 294912))) (to_z-of_z w64 (pos 2 *ℤ s) fits_twice) ∙ to_z-of_z w64 (pos 2 *ℤ s +ℤ pos 294912) fits_both in
-    let value : r ≡ floor_div (pos 2 *ℤ s +ℤ pos 294912) 589824 = e ∙ (ap (λ z. int_div_euclid z (pos 589824)) inner ∙ floor_div-euclid (pos 2 *ℤ s +ℤ pos 294912) 589824) in
-    ap (λ z. to_z w32 (of_z w32 z)) (to_z-of_z w64 r fits ∙ value) ∙ to_z-of_z w32 (floor_div (pos 2 *ℤ s +ℤ pos 294912) 589824) fits_quotient

@@ -1,7 +1,8 @@
-ghost use Rattle.std.specs.Prelude.{◌≡◌, ◌+◌, ◌-◌, ◌*◌, ◌<◌, ◌^◌, ℕ, All, length};
+ghost use Rattle.std.specs.Prelude.{◌≡◌, ◌+◌, ◌-◌, ◌*◌, ◌<◌, ◌≤◌, ◌^◌, ℕ, All, length};
 ghost use Rattle.l3_tables.specs.Lists.{entry, tabulate};
 ghost use Rattle.l3_tables.specs.Sums.{IsWithin};
 ghost use Rattle.l3_mdct.specs.Spectrum.{lower_end, upper_end, line_after};
+ghost use Rattle.l3_mdct.specs.Alias.{with_butterfly};
 
 use crate::rounding::{product, rounded};
 use l3_base::Spectrum;
@@ -35,31 +36,49 @@ fn upper(k: usize, a: i32, b: i32) -> i32
     rounded(above - below)
 }
 
-/// Line `n` after the alias reduction.
-fn reduced(lines: &[i32; 576], n: usize) -> i32
-    requires place { n < 576 }
-    requires small { (m : ℕ) → m < 576 → IsWithin 178392064 (entry lines.now m) }
-    ensures value { result ≡ line_after (entry lines.now) n }
-    ensures bound { IsWithin (2 ^ 28) result }
+/// Butterfly `k` about the lower end of subband `border`.
+#[inline(always)]
+fn butterfly(out: &mut Spectrum, border: usize, k: usize)
+    requires border { 0 < border }
+    requires subband { border < 32 }
+    requires butterfly { k < 8 }
+    requires long { length out.old ≡ 576 }
+    requires below { IsWithin 178392064 (entry out.old (18 * border - 1 - k)) }
+    requires above { IsWithin 178392064 (entry out.old (18 * border + k)) }
+    ensures { out.new ≡ with_butterfly border k out.old }
 {
-    let k = n % 18;
-    if k >= 10 && n < 558 {
-        lower(17 - k, lines[n], lines[n + 1 + 2 * (17 - k)])
-    } else if k < 8 && n >= 18 {
-        upper(k, lines[n - 1 - 2 * k], lines[n])
-    } else {
-        lines[n]
+    let below = out.lines()[18 * border - 1 - k];
+    let above = out.lines()[18 * border + k];
+    out.set(18 * border - 1 - k, lower(k, below, above));
+    out.set(18 * border + k, upper(k, below, above));
+}
+
+/// The eight butterflies about the lower end of subband `border`.
+#[inline(always)]
+fn butterflies(out: &mut Spectrum, border: usize)
+    requires border { 0 < border }
+    requires subband { border < 32 }
+    requires long { length out.old ≡ 576 }
+    requires small { (n : ℕ) → 18 * border ≤ n + 8 → n < 18 * border + 8 → IsWithin 178392064 (entry out.old n) }
+    ensures long { length out.new ≡ 576 }
+    ensures lower { (k : ℕ) → k < 8 → entry out.new (18 * border - 1 - k) ≡ lower_end k (entry out.old (18 * border - 1 - k)) (entry out.old (18 * border + k)) }
+    ensures upper { (k : ℕ) → k < 8 → entry out.new (18 * border + k) ≡ upper_end k (entry out.old (18 * border - 1 - k)) (entry out.old (18 * border + k)) }
+    ensures before { (n : ℕ) → n + 8 < 18 * border → entry out.new n ≡ entry out.old n }
+    ensures after { (n : ℕ) → 18 * border + 8 ≤ n → entry out.new n ≡ entry out.old n }
+{
+    for k in 0..8 {
+        butterfly(out, border, k);
     }
 }
 
 /// The lines after the alias reduction.
-pub(crate) fn reduce(lines: &[i32; 576], out: &mut Spectrum)
-    requires small { (m : ℕ) → m < 576 → IsWithin 178392064 (entry lines.now m) }
-    ensures value { out.new ≡ tabulate 576 (line_after (entry lines.now)) }
+pub(crate) fn reduce(out: &mut Spectrum)
+    requires long { length out.old ≡ 576 }
+    requires small { (n : ℕ) → n < 576 → IsWithin 178392064 (entry out.old n) }
+    ensures value { out.new ≡ tabulate 576 (line_after (entry out.old)) }
     ensures bound { All (IsWithin (2 ^ 28)) out.new }
 {
-    *out = Spectrum::zero();
-    for n in 0..576 {
-        out.set(n, reduced(lines, n));
+    for border in 1..32 {
+        butterflies(out, border);
     }
 }

@@ -5,6 +5,8 @@
 #![tactic(auto)]
 
 mod alias;
+mod cosines;
+mod fold;
 mod laws;
 mod lines;
 mod rounding;

@@ -1,28 +1,18 @@
 ghost use Rattle.std.specs.Prelude.{◌≡◌, ◌+◌, ◌*◌, ◌<◌, ◌^◌, ℕ, All, pos, ◌+ℤ◌, ◌*ℤ◌, length};
 ghost use Rattle.l3_base.specs.Slots.{slot_in};
 ghost use Rattle.l3_tables.specs.Lists.{entry};
-ghost use Rattle.l3_tables.specs.Sums.{floor_div, sum_below, IsWithin};
+ghost use Rattle.l3_tables.specs.Sums.{floor_div, IsWithin};
 ghost use Rattle.l3_mdct.specs.Spectrum.{windowed, line_from, line_before};
-ghost use Rattle.l3_mdct.specs.Rows.{IsRow, AreRows};
+ghost use Rattle.l3_mdct.specs.Fold.{folded_sum};
 
-use crate::rounding::{product, rounded};
+use crate::cosines::{cosine, window};
+use crate::fold::fold36;
+use crate::rounding::{ninth, product, rounded};
 use l3_base::{Slots36, Spectrum};
-use l3_tables::{add_product, k72};
-
-/// What the 36 slots count for in line `m` of their subband.
-fn row(m: usize) -> [i32; 36]
-    requires { m < 18 }
-    ensures { IsRow m result }
-{
-    let mut row = [0i32; 36];
-    for k in 0..36 {
-        let steps = (2 * k + 19) * (2 * m + 1);
-        row[k] = k72(steps as i64);
-    }
-    row
-}
+use l3_tables::add_product;
 
 /// The 36 slots of a subband under the window of a long block.
+#[inline(always)]
 fn windowed_slots(slots: &Slots36, band: usize) -> [i32; 36]
     requires place { band < 32 }
     requires small { All (All (IsWithin 44598016)) slots.now }
@@ -31,63 +21,80 @@ fn windowed_slots(slots: &Slots36, band: usize) -> [i32; 36]
 {
     let mut z = [0i32; 36];
     for k in 0..36 {
-        let steps = 35 - 2 * k as i64;
-        let sum = product(slots.get(band, k), k72(steps));
+        let sum = product(slots.get(band, k), window(k));
         z[k] = rounded(sum);
     }
     z
 }
 
-/// A line of a subband out of its windowed slots and what they count for.
-fn line(z: &[i32; 36], row: &[i32; 36]) -> i32
-    requires slots { (k : ℕ) → k < 36 → IsWithin 44598016 (entry z.now k) }
-    requires cosines { (k : ℕ) → k < 36 → IsWithin (2 ^ 15) (entry row.now k) }
-    ensures { result ≡ floor_div (pos 2 *ℤ sum_below 36 (λ k. entry z.now k *ℤ entry row.now k) +ℤ pos (9 * 2 ^ 15)) (18 * 2 ^ 15) }
+/// The sum of line `m` out of the folded slots of its subband.
+#[inline(always)]
+fn line_sum(f: &[i32; 18], m: usize) -> i64
+    requires line { m < 18 }
+    requires small { (k : ℕ) → k < 18 → IsWithin 89196032 (entry f.now k) }
+    ensures value { result ≡ folded_sum (entry f.now) m }
+    ensures bound { IsWithin (18 * (89196032 * 2 ^ 15)) result }
 {
     let mut sum = 0i64;
-    for k in 0..36 {
-        sum = add_product(sum, i64::from(z[k]), i64::from(row[k]));
+    for k in 0..18 {
+        sum = add_product(sum, i64::from(f[k]), i64::from(cosine(m, k)));
     }
-    (2 * sum + 9 * 32768).div_euclid(18 * 32768) as i32
+    sum
 }
 
-/// Sets the 18 lines of a subband.
-fn set_lines(out: &mut Spectrum, band: usize, z: &[i32; 36], rows: &[[i32; 36]; 18])
+/// The sums of the 18 lines.
+#[inline(always)]
+fn line_sums(f: &[i32; 18], sums: &mut [i64; 18])
+    requires { (k : ℕ) → k < 18 → IsWithin 89196032 (entry f.now k) }
+    ensures value { (m : ℕ) → m < 18 → entry sums.new m ≡ folded_sum (entry f.now) m }
+    ensures bound { (m : ℕ) → m < 18 → IsWithin (18 * (89196032 * 2 ^ 15)) (entry sums.new m) }
+{
+    for m in 0..18 {
+        sums[m] = line_sum(f, m);
+    }
+}
+
+/// Sets the 18 lines of a subband: a ninth of each sum.
+#[inline(always)]
+fn set_lines(out: &mut Spectrum, band: usize, sums: &[i64; 18])
     requires place { band < 32 }
     requires long { length out.old ≡ 576 }
-    requires slots { (k : ℕ) → k < 36 → IsWithin 44598016 (entry z.now k) }
-    requires cosines { AreRows rows.now }
+    requires small { (m : ℕ) → m < 18 → IsWithin (18 * (89196032 * 2 ^ 15)) (entry sums.now m) }
     ensures long { length out.new ≡ 576 }
-    ensures lines { (m : ℕ) → m < 18 → entry out.new (18 * band + m) ≡ line_from (entry z.now) m }
+    ensures lines { (m : ℕ) → m < 18 → entry out.new (18 * band + m) ≡ floor_div (pos 2 *ℤ entry sums.now m +ℤ pos (9 * 2 ^ 15)) (18 * 2 ^ 15) }
     ensures before { (n : ℕ) → n < 18 * band → entry out.new n ≡ entry out.old n }
 {
     for m in 0..18 {
-        out.set(18 * band + m, line(z, &rows[m]));
+        out.set(18 * band + m, ninth(sums[m]));
     }
 }
 
-/// What the 36 slots count for in each of the 18 lines of their subband.
-fn all_rows() -> [[i32; 36]; 18]
-    ensures { AreRows result }
+/// The 18 lines of a subband out of its 36 slots.
+#[inline(always)]
+fn transform_subband(slots: &Slots36, band: usize, out: &mut Spectrum)
+    requires place { band < 32 }
+    requires small { All (All (IsWithin 44598016)) slots.now }
+    requires long { length out.old ≡ 576 }
+    ensures long { length out.new ≡ 576 }
+    ensures lines { (m : ℕ) → m < 18 → entry out.new (18 * band + m) ≡ line_from (windowed (slot_in slots.now band)) m }
+    ensures before { (n : ℕ) → n < 18 * band → entry out.new n ≡ entry out.old n }
 {
-    let mut rows = [[0i32; 36]; 18];
-    for m in 0..18 {
-        rows[m] = row(m);
-    }
-    rows
+    let z = windowed_slots(slots, band);
+    let f = fold36(&z);
+    let mut sums = [0i64; 18];
+    line_sums(&f, &mut sums);
+    set_lines(out, band, &sums);
 }
 
 /// The 576 lines before the alias reduction.
-pub(crate) fn transform(slots: &Slots36) -> Spectrum
+pub(crate) fn transform(slots: &Slots36, out: &mut Spectrum)
     requires { All (All (IsWithin 44598016)) slots.now }
-    ensures value { (n : ℕ) → n < 576 → entry result n ≡ line_before slots.now n }
-    ensures bound { (n : ℕ) → n < 576 → IsWithin 178392064 (entry result n) }
+    ensures long { length out.new ≡ 576 }
+    ensures value { (n : ℕ) → n < 576 → entry out.new n ≡ line_before slots.now n }
+    ensures bound { (n : ℕ) → n < 576 → IsWithin 178392064 (entry out.new n) }
 {
-    let rows = all_rows();
-    let mut lines = Spectrum::zero();
+    *out = Spectrum::zero();
     for band in 0..32 {
-        let z = windowed_slots(slots, band);
-        set_lines(&mut lines, band, &z, &rows);
+        transform_subband(slots, band, out);
     }
-    lines
 }

@@ -18,3 +18,15 @@ pub(crate) fn rounded(sum: i64) -> i32
 {
     ((sum + (1 << 14)) >> 15) as i32
 }
+
+/// A ninth of a sum in units of 2^-15, to the nearest whole number.
+///
+/// It is raised by 2^28 and brought down again: a division without signs has no branch.
+#[inline(always)]
+pub(crate) fn ninth(sum: i64) -> i32
+    requires { IsWithin (18 * (89196032 * 2 ^ 15)) sum }
+    ensures { result ≡ floor_div (pos 2 *ℤ sum +ℤ pos (9 * 2 ^ 15)) (18 * 2 ^ 15) }
+{
+    let raised = ((sum + 9 * (1 << 14)) >> 15) + 9 * (1 << 28);
+    (raised as u32 / 9) as i32 - (1 << 28)
+}

@@ -14,6 +14,6 @@ pub fn spectrum(slots: &Slots36, out: &mut Spectrum)
     ensures value { out.new ≡ lines_of slots.now }
     ensures bound { All (IsWithin (2 ^ 28)) out.new }
 {
-    let lines = transform(slots);
-    reduce(lines.lines(), out);
+    transform(slots, out);
+    reduce(out);
 }

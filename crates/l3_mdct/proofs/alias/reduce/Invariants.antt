@@ -1,12 +1,9 @@
-use Rattle.std.proofs.Common.{◌≡◌, ℕ, ◌<◌, ◌^◌, length}
-use Rattle.l3_tables.specs.Lists.{entry}
-use Rattle.l3_tables.specs.Sums.{IsWithin}
-use Rattle.l3_mdct.specs.Spectrum.{line_after}
+use Rattle.std.proofs.Common.{◌<◌}
+use Rattle.l3_mdct.proofs.Butterflies.{AreReduced}
 use Rattle.l3_mdct.proofs.alias.reduce.Given as goal
 
-abbrev pub invariant-loop-n : goal.invariant-loop-n
-invariant-loop-n l = record {
-  long : length l.out ≡ 576;
-  value : (m : ℕ) → m < l.n → entry l.out m ≡ line_after (entry l.lines) m;
-  bound : (m : ℕ) → m < l.n → IsWithin (2 ^ 28) (entry l.out m);
+abbrev pub invariant-loop-border : goal.invariant-loop-border
+invariant-loop-border l = record {
+  from : 0 < l.border;
+  lines : AreReduced l.border l.fn.out l.out;
 }

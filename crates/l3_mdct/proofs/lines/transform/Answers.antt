@@ -1,17 +1,17 @@
 use Rattle.std.proofs.Common.{◌/◌, arith}
-use Rattle.l3_tables.specs.Lists.{entry}
+use Rattle.l3_base.specs.Slots.{slot_in}
 use Rattle.l3_tables.proofs.Entries.{within_same}
-use Rattle.l3_mdct.specs.Spectrum.{line_from, line_before}
+use Rattle.l3_mdct.specs.Spectrum.{windowed, line_from, line_before}
 use Rattle.l3_mdct.proofs.Bounds.{slot_in_small, line_before_small}
 use Rattle.l3_mdct.proofs.SubbandLines.{line_of_band, bands_more}
 use Rattle.l3_mdct.proofs.lines.transform.Goals as goal
 
 pub loop-band-preserved : goal.loop-band-preserved
 loop-band-preserved c = record {
-  long = c.set_lines.ensures.long;
-  value = bands_more c.loop-band.lines c.set_lines.new.out c.loop-band.band (line_from (entry c.windowed_slots-z.result)) (line_before c.args.slots.now)
-      c.loop-band.invariant.value c.set_lines.ensures.before c.set_lines.ensures.lines
-      (λ m lt. line_of_band c.windowed_slots-z.result c.args.slots.now c.loop-band.band m lt c.windowed_slots-z.ensures.value);
+  long = c.transform_subband.ensures.long;
+  value = bands_more c.loop-band.out c.transform_subband.new.out c.loop-band.band (line_from (windowed (slot_in c.args.slots.now c.loop-band.band))) (line_before c.args.slots.now)
+      c.loop-band.invariant.value c.transform_subband.ensures.before c.transform_subband.ensures.lines
+      (λ m lt. line_of_band c.args.slots.now c.loop-band.band m lt);
 }
 
 pub returns-clause-bound : goal.returns-clause-bound

@@ -5,6 +5,6 @@ use Rattle.l3_mdct.proofs.lines.transform.Given as goal
 
 abbrev pub invariant-loop-band : goal.invariant-loop-band
 invariant-loop-band l = record {
-  long : length l.lines ≡ 576;
-  value : (n : ℕ) → n < 18 * l.band → entry l.lines n ≡ line_before l.slots n;
+  long : length l.out ≡ 576;
+  value : (n : ℕ) → n < 18 * l.band → entry l.out n ≡ line_before l.slots n;
 }

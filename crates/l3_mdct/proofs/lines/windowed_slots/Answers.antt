@@ -11,7 +11,7 @@ use Rattle.l3_mdct.proofs.lines.windowed_slots.Goals as goal
 
 pub rounded-requires : goal.rounded-requires
 rounded-requires c =
-    let sum = windowed_sum_is (slot_in c.args.slots.now c.args.band c.loop-k.k) c.loop-k.k c.get.result c.k72.result c.product-sum.result c.loop-k-test.true (search rules) (search rules) c.get.ensures.value c.k72.ensures.value c.product-sum.ensures.value in
+    let sum = windowed_sum_is (slot_in c.args.slots.now c.args.band c.loop-k.k) c.loop-k.k c.get.result c.window.result c.product-sum.result (search rules) (search rules) c.get.ensures.value c.window.ensures.value c.product-sum.ensures.value in
     let slot = slot_in_small 44598016 c.args.slots.now c.args.band c.loop-k.k c.requires.small in
     let small = windowed_sum_small (slot_in c.args.slots.now c.args.band) c.loop-k.k slot in
     within_same (268435456 * 32768) _ _ (sum_is _ _ sum small) small
@@ -19,7 +19,7 @@ rounded-requires c =
 pub loop-k-preserved : goal.loop-k-preserved
 unfolding windowed
 loop-k-preserved c =
-    let sum = windowed_sum_is (slot_in c.args.slots.now c.args.band c.loop-k.k) c.loop-k.k c.get.result c.k72.result c.product-sum.result c.loop-k-test.true (search rules) (search rules) c.get.ensures.value c.k72.ensures.value c.product-sum.ensures.value in
+    let sum = windowed_sum_is (slot_in c.args.slots.now c.args.band c.loop-k.k) c.loop-k.k c.get.result c.window.result c.product-sum.result (search rules) (search rules) c.get.ensures.value c.window.ensures.value c.product-sum.ensures.value in
     let slot = slot_in_small 44598016 c.args.slots.now c.args.band c.loop-k.k c.requires.small in
     let small = windowed_sum_small (slot_in c.args.slots.now c.args.band) c.loop-k.k slot in
     let value = rounded_is c.rounded.result _ _ (search rules) c.rounded.ensures (sum_is _ _ sum small) in

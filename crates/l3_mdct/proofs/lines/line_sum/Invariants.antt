@@ -2,10 +2,11 @@ use Rattle.std.proofs.Common.{◌≡◌, ◌*◌, ◌≤◌, ◌*ℤ◌}
 use Rattle.std.specs.Prelude.{unsigned_abs}
 use Rattle.l3_tables.specs.Lists.{entry}
 use Rattle.l3_tables.specs.Sums.{sum_below}
-use Rattle.l3_mdct.proofs.lines.line.Given as goal
+use Rattle.l3_mdct.specs.Fold.{folded_cosine}
+use Rattle.l3_mdct.proofs.lines.line_sum.Given as goal
 
 abbrev pub invariant-loop-k : goal.invariant-loop-k
 invariant-loop-k l = record {
-  sum_is : l.sum ≡ sum_below l.k (λ k. entry l.z k *ℤ entry l.row k);
-  small : unsigned_abs l.sum ≤ l.k * (44598016 * 32768);
+  sum_is : l.sum ≡ sum_below l.k (λ k. entry l.f k *ℤ folded_cosine l.m k);
+  small : unsigned_abs l.sum ≤ l.k * (89196032 * 32768);
 }
