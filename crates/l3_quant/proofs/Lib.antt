@@ -4,3 +4,5 @@ pub mod Scales
 pub mod Entries
 pub mod Blocks
 pub mod Codable
+pub mod LimitLemmas
+pub mod PeakLemmas

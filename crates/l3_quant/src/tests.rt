@@ -1,7 +1,8 @@
 ghost use Rattle.std.specs.Prelude.{◌≤ℤ◌, pos, negsuc};
 
-use crate::{all, first_gain, line, plain_line};
-use l3_base::Spectrum;
+use crate::{all, band_peaks, cut_values, first_gain, line, plain_line};
+use l3_base::{SampleRate, Spectrum};
+use l3_tables::edge;
 
 #[test]
 fn quantised_lines(rt: HostRuntime) {
@@ -87,5 +88,93 @@ fn thresholds_and_halving_agree(rt: HostRuntime) {
         for gain in [-64, 41, 42, 141, 150, 160, 170, 200, 210, 255] {
             assert!(rt; agrees(&spec, gain), "at {gap}, {gain}");
         }
+    }
+}
+
+fn no_cuts() -> [u8; 576] {
+    [0; 576]
+}
+
+fn no_peaks() -> [u16; 22] {
+    [0; 22]
+}
+
+#[test]
+fn cuts_and_peaks(rt: HostRuntime) {
+    let cases = [
+        (16777216, 210, 1),
+        (268435456, 210, 8),
+        (16777216, 0, 15),
+        (536870911, 255, 0),
+        (8376320, 210, 1),
+        (8376319, 210, 0),
+    ];
+    let mut cut = no_cuts();
+    let mut peaks = no_peaks();
+    for (x, gain, value) in cases {
+        let mut spec = Spectrum::zero();
+        spec.set(575, x);
+        spec.set(23, -x);
+        cut_values(&spec, gain, &mut cut);
+        assert_eq!(rt;
+            (cut[22], cut[23], cut[575]),
+            (0, value, value),
+            "at {x}, {gain}"
+        );
+        let coded = band_peaks(&spec, SampleRate::Hz44100, gain, &mut peaks);
+        assert_eq!(rt; coded, gain > 0, "at {x}, {gain}");
+        if coded {
+            assert_eq!(rt;
+                (peaks[4], peaks[5], peaks[21]),
+                (0, u16::from(value), u16::from(value)),
+                "at {x}, {gain}"
+            );
+        }
+    }
+}
+
+// Whether `cut_values` gives what the plain program does line by line.
+fn cuts_agree(spec: &Spectrum, gain: i16) -> bool
+    requires low { negsuc 63 ≤ℤ gain }
+    requires high { gain ≤ℤ pos 255 }
+{
+    let mut cut = no_cuts();
+    cut_values(spec, gain, &mut cut);
+    let mut same = true;
+    let lines = spec.lines();
+    for i in 0..576 {
+        let value = plain_line(lines[i], gain).unwrap_or(15).min(15);
+        same = same && u16::from(cut[i]) == value;
+    }
+    same
+}
+
+// Whether `band_peaks` gives the greatest value that the plain program has in each band.
+fn peaks_agree(spec: &Spectrum, gain: i16) -> bool
+    requires low { negsuc 63 ≤ℤ gain }
+    requires high { gain ≤ℤ pos 255 }
+{
+    let mut peaks = no_peaks();
+    let whole = band_peaks(spec, SampleRate::Hz32000, gain, &mut peaks);
+    let mut greatest = 0;
+    let mut same = true;
+    let lines = spec.lines();
+    for band in 0..22 {
+        let mut peak = 0;
+        for i in usize::from(edge(2, band))..usize::from(edge(2, band + 1)) {
+            peak = peak.max(plain_line(lines[i], gain).unwrap_or(8192));
+        }
+        greatest = peak.max(greatest);
+        same = same && (!whole || peaks[band] == peak);
+    }
+    same && whole == (greatest < 8192)
+}
+
+#[test]
+fn cuts_and_halving_agree(rt: HostRuntime) {
+    let spec = spectrum(1);
+    for gain in [-64, 130, 141, 150, 160, 170, 181, 200, 223, 255] {
+        assert!(rt; cuts_agree(&spec, gain), "at {gain}");
+        assert!(rt; peaks_agree(&spec, gain), "at {gain}");
     }
 }
