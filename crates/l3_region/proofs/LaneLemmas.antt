@@ -1,10 +1,10 @@
 -- Steps of the words for lanes.
-use Rattle.std.proofs.Common.{◌≡◌, ℕ, zero, suc, ◌+◌, ◌-◌, ◌*◌, ◌<◌, ◌≤◌, List, [], get_or, cond, leb, true, refl, ap, ◌∙◌, arith, inl, inr, add-one}
+use Rattle.std.proofs.Common.{◌≡◌, ℕ, zero, suc, ◌+◌, ◌-◌, ◌*◌, ◌<◌, ◌≤◌, List, [], get_or, cond, leb, true, refl, sym, ap, ◌∙◌, arith, inl, inr, add-one}
 use Rattle.std.specs.Prelude.{ℤ, min, max}
-use Rattle.std.proofs.lemmas.Bool.{cases_lt, le-leb}
+use Rattle.std.proofs.lemmas.Bool.{cases_lt, le-leb, lt-ltb, le-ltb}
 use Rattle.l3_tables.specs.Lists.{entry}
-use Rattle.l3_region.specs.Lanes.{AreFloors, AreSums, CostsGrow, lane_class, mask_at, least_below, class_from, lane_cost, lane_sum, range_cost, row_at, place_of}
-use Rattle.l3_region.proofs.Tables.{mask_is, row_small, row_zero}
+use Rattle.l3_region.specs.Lanes.{AreFloors, AreSums, CostsGrow, LinbitsGrow, lane_class, mask_at, least_below, class_from, lane_cost, lane_sum, range_cost, row_at, place_of}
+use Rattle.l3_region.proofs.Tables.{mask_is, mask_linbits, mask_none, row_rises, row_small, row_zero}
 
 -- ---- the least
 
@@ -110,6 +110,62 @@ lane_sum-rises q k i j le =
     let same : i + (j - i) ≡ j = omega arith in
     let grows = rises-by q k i (j - i) in
     rw same at grows
+
+-- lanes of tables with linbits grow
+linbits-one : (q : List ℤ) (k i n : ℕ) → 12 ≤ k → k < 23 → lane_sum q k (i + n) + lane_sum q (k + 1) i ≤ lane_sum q (k + 1) (i + n) + lane_sum q k i
+linbits-one q k i zero from to = let same : i + 0 ≡ i = omega arith in rw same (omega arith)
+linbits-one q k i (suc n) from to =
+    let more : i + suc n ≡ i + n + 1 = omega arith in
+    let place = place_of (entry q (2 * (i + n))) (entry q (2 * (i + n) + 1)) in
+    let rises = row_rises place k (place_small (entry q (2 * (i + n))) (entry q (2 * (i + n) + 1))) from to in
+    rw more (omega (arith, linbits-one q k i n from to, lane_sum-more q k (i + n), lane_sum-more q (k + 1) (i + n), rises))
+
+linbits-by : (q : List ℤ) (k m i n : ℕ) → 12 ≤ k → k + m < 24 → lane_sum q k (i + n) + lane_sum q (k + m) i ≤ lane_sum q (k + m) (i + n) + lane_sum q k i
+linbits-by q k zero i n from to = let same : k + 0 ≡ k = omega arith in rw same (omega arith)
+linbits-by q k (suc m) i n from to =
+    let more : k + suc m ≡ k + m + 1 = omega arith in
+    rw more (omega (arith, linbits-by q k m i n from (omega arith), linbits-one q (k + m) i n (omega arith) (omega arith)))
+
+pub lane_sum-linbits : (q : List ℤ) (k l i j : ℕ) → 12 ≤ k → k ≤ l → l < 24 → i ≤ j → lane_sum q k j + lane_sum q l i ≤ lane_sum q l j + lane_sum q k i
+lane_sum-linbits q k l i j from order to le =
+    let lane : k + (l - k) ≡ l = omega arith in
+    let end : i + (j - i) ≡ j = omega arith in
+    let grows = linbits-by q k (l - k) i (j - i) from (omega arith) in
+    rw (lane, end) at grows
+
+-- ---- the cheapest lane
+
+-- lanes further on that cost no less
+least_below-front : (f : ℕ → ℕ) (n m : ℕ) → ((j : ℕ) → n ≤ j → j < n + m → least_below f n ≤ f j) → least_below f (n + m) ≡ least_below f n
+least_below-front f n zero le = let same : n + 0 ≡ n = omega arith in ap (least_below f) same
+least_below-front f n (suc m) le =
+    let more : n + suc m ≡ n + m + 1 = omega arith in
+    omega (arith, ap (least_below f) more, least_below-more f (n + m), least_below-front f n m (λ j from lt. le j from (omega arith)), le (n + m) (omega arith) (omega arith))
+
+-- sixteen lanes are enough where a table without linbits holds the values
+pub least_of_short : (low high : List ℕ) (class : ℕ) → class < 6 → LinbitsGrow low high → ((k : ℕ) → k < 24 → get_or low k 0 ≤ get_or high k 0) →
+    least_below (lane_cost low high class) 16 ≡ least_below (lane_cost low high class) 24
+unfolding LinbitsGrow
+least_of_short low high class small grow rising =
+    let f = lane_cost low high class in
+    sym (least_below-front f 16 8 (λ j from lt.
+    omega (arith, least_below-lower f 16 12 (omega arith), mask_none class 12 small (omega arith) (omega arith), mask_none class j small (omega arith) (omega arith), grow 12 j (omega arith) (omega arith) (omega arith), rising 12 (omega arith), rising j (omega arith))))
+
+-- the lane of the class is the cheapest one where only tables with linbits hold the values
+pub least_of_long : (low high : List ℕ) (class : ℕ) → 6 ≤ class → class < 14 → LinbitsGrow low high → ((k : ℕ) → k < 24 → get_or low k 0 ≤ get_or high k 0) → ((k : ℕ) → k < 24 → get_or high k 0 ≤ 9216) →
+    get_or high (class + 6) 0 - get_or low (class + 6) 0 ≡ least_below (lane_cost low high class) 24
+unfolding LinbitsGrow
+least_of_long low high class from to grow rising small =
+    let f = lane_cost low high class in
+    let lane = class + 6 in
+    let here : mask_at class lane ≡ 0 = mask_linbits class lane from to (omega arith) ∙ ap (λ t. cond {A = ℕ} t 16384 0) (le-ltb lane lane (omega arith)) in
+    let least = least_below-is f 24 lane (omega arith) (omega (arith, here, small lane (omega arith))) (λ j lt. elim (cases_lt j lane) [
+      | inl before ↦
+          (let over : mask_at class j ≡ 16384 = mask_linbits class j from to lt ∙ ap (λ t. cond {A = ℕ} t 16384 0) (lt-ltb j lane before) in
+          omega (arith, here, over, small lane (omega arith)))
+      | inr after ↦ omega (arith, here, grow lane j (omega arith) after lt, rising lane (omega arith), rising j lt)
+    ]) in
+    omega (arith, here, least)
 
 -- ---- floors
 

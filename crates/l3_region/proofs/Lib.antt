@@ -8,7 +8,10 @@ pub mod Slices
 pub mod Pairs
 pub mod SplitLemmas
 pub mod QuadCells
+pub mod CutLines
 pub mod Ranges
+pub mod CutClasses
+pub mod CutQuads
 pub mod Chosen
 pub mod Composed
 pub mod Fewest

@@ -1,5 +1,5 @@
 -- The tables of lanes, by tests that compute.
-use Rattle.std.proofs.Common.{◌≡◌, ℕ, zero, suc, ◌+◌, ◌-◌, ◌<◌, ◌≤◌, true, [], length, get_or, cond, eqb, ltb, leb, refl, sym, ◌∙◌, arith, inl, inr, ◌⊎◌}
+use Rattle.std.proofs.Common.{◌≡◌, ℕ, zero, suc, ◌+◌, ◌-◌, ◌<◌, ◌≤◌, true, [], length, get_or, cond, eqb, ltb, leb, refl, sym, ap, ◌∙◌, arith, inl, inr, ◌⊎◌}
 use Rattle.std.proofs.lemmas.Bool.{agree_below, agree_below_at, eqb-true, ltb-true, leb-true, cases_lt, le-leb, lt-leb}
 use Rattle.l3_huff.specs.Tables.{IsTable, is_table, greatest_of, linbits_at, width_at}
 use Rattle.l3_region.specs.declared.rows.TheConstants.{ROWS}
@@ -18,6 +18,18 @@ row_small place k a b =
 pub row_zero : (place : ℕ) → place < 256 → row_at place 0 ≡ 0
 unfolding row_at
 row_zero place a = eqb-true _ _ (agree_below_at (λ p. eqb (row_at p 0) 0) (λ _. true) 256 place refl a)
+
+-- in the lanes of tables with linbits a pair takes no fewer bits from lane to lane
+pub row_rises : (place k : ℕ) → place < 256 → 12 ≤ k → k < 23 → row_at place k ≤ row_at place (k + 1)
+unfolding row_at
+row_rises place k a from to =
+    let j = k - 12 in
+    let back : j + 12 ≡ k = omega arith in
+    let tested : row_at place (j + 12) ≤ row_at place (j + 13) =
+    leb-true _ _ (agree_below_at (λ i. leb (row_at place (i + 12)) (row_at place (i + 13))) (λ _. true) 11 j
+    (agree_below_at (λ p. agree_below (λ i. leb (row_at p (i + 12)) (row_at p (i + 13))) (λ _. true) 11) (λ _. true) 256 place refl a) (omega arith)) in
+    let next : j + 13 ≡ k + 1 = omega arith in
+    omega (arith, tested, ap (row_at place) back, ap (row_at place) next)
 
 pub row_long : (place : ℕ) → place < 256 → length (get_or ROWS place []) ≡ 24
 row_long place a = eqb-true _ _ (agree_below_at (λ p. eqb (length (get_or ROWS p [])) 24) (λ _. true) 256 place refl a)
@@ -39,6 +51,27 @@ unfolding mask_at lane_class
 mask_is class k a b =
     eqb-true _ _ (agree_below_at (λ j. eqb (mask_at class j) (cond (leb class (lane_class j)) 0 16384)) (λ _. true) 24 k
     (agree_below_at (λ p. agree_below (λ j. eqb (mask_at p j) (cond (leb p (lane_class j)) 0 16384)) (λ _. true) 24) (λ _. true) 14 class refl a) b)
+
+-- values that only tables with linbits hold are held from the lane of their class on
+pub mask_linbits : (class k : ℕ) → 6 ≤ class → class < 14 → k < 24 → mask_at class k ≡ cond (ltb k (class + 6)) 16384 0
+unfolding mask_at
+mask_linbits class k from to lt =
+    let i = class - 6 in
+    let back : i + 6 ≡ class = omega arith in
+    let tested : mask_at (i + 6) k ≡ cond (ltb k (i + 6 + 6)) 16384 0 =
+    eqb-true _ _ (agree_below_at (λ j. eqb (mask_at (i + 6) j) (cond (ltb j (i + 6 + 6)) 16384 0)) (λ _. true) 24 k
+    (agree_below_at (λ p. agree_below (λ j. eqb (mask_at (p + 6) j) (cond (ltb j (p + 6 + 6)) 16384 0)) (λ _. true) 24) (λ _. true) 8 i refl (omega arith)) lt) in
+    ap (λ c. mask_at c k) (sym back) ∙ (tested ∙ ap (λ c. cond {A = ℕ} (ltb k (c + 6)) 16384 0) back)
+
+-- others are held by all of these
+pub mask_none : (class k : ℕ) → class < 6 → 12 ≤ k → k < 24 → mask_at class k ≡ 0
+unfolding mask_at
+mask_none class k small from to =
+    let j = k - 12 in
+    let back : j + 12 ≡ k = omega arith in
+    ap (mask_at class) (sym back)
+    ∙ eqb-true _ _ (agree_below_at (λ i. eqb (mask_at class (i + 12)) 0) (λ _. true) 12 j
+    (agree_below_at (λ p. agree_below (λ i. eqb (mask_at p (i + 12)) 0) (λ _. true) 12) (λ _. true) 6 class refl small) (omega arith))
 
 -- the tables of lanes are of the profile and hold values up to the bound of their class
 pub lane_is_table : (k : ℕ) → k < 24 → IsTable (lane_table k)

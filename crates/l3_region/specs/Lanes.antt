@@ -1,7 +1,8 @@
 -- The code tables side by side, a lane each, and sums over them. Only the inside of this crate speaks of these.
 use Rattle.std.specs.Prelude.{◌≡◌, ◌<◌, ◌≤◌, ◌+◌, ◌-◌, ◌*◌, ◌/◌, ◌%◌, ◌^◌, ℕ, zero, suc, nat_le, List, [], max, min, slice_index, slice_index_or, ℤ, unsigned_abs, All, length, slice_range}
 use Rattle.l3_tables.specs.Lists.{entry}
-use Rattle.l3_tables.specs.Bands.{edge_at}
+use Rattle.l3_tables.specs.Bands.{edge_at, edges_at}
+use Rattle.l3_region.specs.Cut.{AreCutOf}
 use Rattle.l3_region.specs.Regions.{holds_all}
 use Rattle.l3_region.specs.declared.lanes.TheConstants.{TABLES, CLASSES, BOUNDS, MASKS}
 use Rattle.l3_region.specs.declared.rows.TheConstants.{ROWS}
@@ -100,12 +101,21 @@ pub record IsBestPair (f : ℕ → ℕ) (n r bits : ℕ) : Type 0 where
   pub found : 0 < n → (r < n) × IsPair r × (bits ≡ f r)
   pub none : n ≡ 0 → bits ≡ 2 ^ 32 - 1
 
+-- between two rows the bits grow from lane to lane where the tables have linbits
+unfoldable pub LinbitsGrow : List ℕ → List ℕ → Type 0
+LinbitsGrow low high = (k l : ℕ) → 12 ≤ k → k ≤ l → l < 24 → slice_index high k + slice_index low l ≤ slice_index high l + slice_index low k
+
 -- rows of sums that rise lane by lane and stay small, without bits in the lane of table 0, and classes that there are
 pub record AreSums (rows : List (List ℕ)) (classes : List ℕ) : Type 0 where
   pub rising : (i j k : ℕ) → i ≤ j → j ≤ 22 → k < 24 → sum_at rows i k ≤ sum_at rows j k
   pub small : (i k : ℕ) → i ≤ 22 → k < 24 → sum_at rows i k ≤ 9216
   pub zero_bits : (i : ℕ) → i ≤ 22 → sum_at rows i 0 ≡ 0
+  pub linbits : (i j : ℕ) → i ≤ j → j ≤ 22 → LinbitsGrow (slice_index_or rows i []) (slice_index_or rows j [])
   pub classed : (i n : ℕ) → i + n ≤ 22 → class_from classes i n < 14
+
+-- the class of a band's values before a line, of whatever values there are that are cut so
+unfoldable pub IsBandClass : List ℕ → List ℕ → ℕ → ℕ → ℕ → ℕ → Type 0
+IsBandClass cut peaks rate end band class = (q : List ℤ) → AreCutOf (edges_at rate) q cut peaks → IsClass (slice_range q (min (edge_at rate band) end) (min (edge_at rate (band + 1)) end)) class
 
 -- the values between two edges, cut at the line where the pairs end
 abbrev pub values_between : List ℤ → ℕ → ℕ → ℕ → ℕ → List ℤ

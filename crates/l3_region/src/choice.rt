@@ -1,28 +1,29 @@
 //! The choice of regions: the cheapest lane between two rows of sums, and the pair of region lengths of least cost.
 
 ghost use Rattle.std.specs.Prelude.{◌≡◌, ◌<◌, ◌≤◌, ◌+◌, ◌-◌, ◌*◌, ◌/◌, ◌%◌, ◌^◌, ℕ, length, replicate, slice_index, slice_index_or, []};
-ghost use Rattle.l3_region.specs.Lanes.{AreFloors, AreSums, CostsGrow, IsBestPair, IsFirstLane, class_from, lane_cost, lane_table, least_below, pair_cost, range_cost};
+ghost use Rattle.l3_region.specs.Lanes.{AreFloors, AreSums, CostsGrow, IsBestPair, IsFirstLane, LinbitsGrow, class_from, lane_cost, lane_table, least_below, pair_cost, range_cost};
 
 use crate::lanes::{mask, table};
 
 /// Bits of pairs in each lane.
 pub(crate) type Row = [u16; 24];
 
-/// What the bits between two rows of sums are in the cheapest lane.
+/// What the bits between two rows of sums are in the cheapest lane, where a table without linbits holds the values.
+///
+/// Of the lanes with linbits the first one is enough.
 #[inline(never)]
-fn least_bits(low: &Row, high: &Row, class: u8) -> u32
-    requires class { class < 14 }
+fn least_of_sixteen(low: &Row, high: &Row, class: u8) -> u16
+    requires class { class < 6 }
     requires rising { (k : ℕ) → k < 24 → slice_index low.now k ≤ slice_index high.now k }
     requires small { (k : ℕ) → k < 24 → slice_index high.now k ≤ 9216 }
-    ensures value { result ≡ least_below (lane_cost low.now high.now class) 24 }
-    ensures limit { result < 2 ^ 16 }
+    ensures { result ≡ least_below (lane_cost low.now high.now class) 16 }
 {
     let mask = mask(class);
     let mut least = u16::MAX;
-    for k in 0..24 {
+    for k in 0..16 {
         least = least.min(high[k] - low[k] + mask[k]);
     }
-    u32::from(least)
+    least
 }
 
 /// The first lane of least cost between two rows of sums.
@@ -46,6 +47,8 @@ fn first_lane(low: &Row, high: &Row, class: u8) -> usize
 }
 
 /// What some bands cost in the cheapest lane, for their greatest class; zeros cost nothing.
+///
+/// Where only tables with linbits hold the values, the first of these is the cheapest.
 #[inline(always)]
 fn range_bits(rows: &[Row; 23], classes: &[u8; 22], from: usize, to: usize, class: u8) -> u32
     requires sums { AreSums rows.now classes.now }
@@ -55,10 +58,13 @@ fn range_bits(rows: &[Row; 23], classes: &[u8; 22], from: usize, to: usize, clas
     ensures value { result ≡ range_cost rows.now classes.now from (to - from) }
     ensures limit { result < 2 ^ 16 }
 {
-    if class == 0 {
+    if class >= 6 {
+        let lane = usize::from(class) + 6;
+        u32::from(rows[to][lane] - rows[from][lane])
+    } else if class == 0 {
         0
     } else {
-        least_bits(&rows[from], &rows[to], class)
+        u32::from(least_of_sixteen(&rows[from], &rows[to], class))
     }
 }
 
@@ -126,11 +132,10 @@ fn floors(rows: &[Row; 23], classes: &[u8; 22]) -> [u32; 23]
     floors
 }
 
-/// A pair of region lengths, and the bits of all pairs of values.
+/// A pair of region lengths by its place, 8 times the first one and the second one, and the bits of all pairs of values.
 #[derive(Clone, Copy)]
 pub(crate) struct Pair {
-    pub region0: u8,
-    pub region1: u8,
+    pub place: u8,
     pub bits: u32,
 }
 
@@ -166,14 +171,15 @@ fn best_second(
     requires floor { (e : ℕ) → e < 23 → slice_index floors.now e < 2 ^ 21 }
     requires first { first ≡ range_cost rows.now classes.now 0 (region0 + 1) }
     requires limit { first < 2 ^ 16 }
-    requires before { IsBestPair (pair_cost rows.now classes.now) (8 * region0) (8 * so_far.region0 + so_far.region1) so_far.bits }
-    requires small0 { so_far.region0 ≤ 15 }
-    requires small1 { so_far.region1 ≤ 7 }
-    ensures best { IsBestPair (pair_cost rows.now classes.now) (8 * region0 + 8) (8 * result.region0 + result.region1) result.bits }
-    ensures small0 { result.region0 ≤ 15 }
-    ensures small1 { result.region1 ≤ 7 }
+    requires before { IsBestPair (pair_cost rows.now classes.now) (8 * region0) so_far.place so_far.bits }
+    requires place { so_far.place < 128 }
+    ensures best { IsBestPair (pair_cost rows.now classes.now) (8 * region0 + 8) result.place result.bits }
+    ensures place { result.place < 128 }
 {
     let from = usize::from(region0) + 1;
+    if first + (floors[22] - floors[from]) >= so_far.bits {
+        return so_far;
+    }
     let seconds = (21 - region0).min(8);
     let mut best = so_far;
     let mut class = 0u8;
@@ -186,8 +192,7 @@ fn best_second(
             best = better(
                 best,
                 Pair {
-                    region0,
-                    region1,
+                    place: 8 * region0 + region1,
                     bits,
                 },
             );
@@ -200,15 +205,13 @@ fn best_second(
 pub(crate) fn best_pair(rows: &[Row; 23], classes: &[u8; 22]) -> Pair
     requires sums { AreSums rows.now classes.now }
     requires grow { CostsGrow rows.now classes.now }
-    ensures best { IsBestPair (pair_cost rows.now classes.now) 128 (8 * result.region0 + result.region1) result.bits }
-    ensures small0 { result.region0 ≤ 15 }
-    ensures small1 { result.region1 ≤ 7 }
+    ensures best { IsBestPair (pair_cost rows.now classes.now) 128 result.place result.bits }
+    ensures place { result.place < 128 }
 {
     let tails = tails(rows, classes);
     let floors = floors(rows, classes);
     let mut best = Pair {
-        region0: 0,
-        region1: 0,
+        place: 0,
         bits: u32::MAX,
     };
     let mut class = 0u8;

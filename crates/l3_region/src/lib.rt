@@ -6,6 +6,7 @@
 #![tactic(auto)]
 
 mod choice;
+mod cut;
 mod lanes;
 mod laws;
 mod quads;
@@ -16,7 +17,7 @@ mod sums;
 
 pub use l3_huff::QuadTable;
 pub use laws::fewest_bits;
-pub use regions::{Regions, best};
+pub use regions::{Regions, best, best_of_cut};
 pub use split::{Split, split_of};
 
 #[cfg(test)]

@@ -1,13 +1,15 @@
-ghost use Rattle.std.specs.Prelude.{◌≡◌, ◌≤◌, ◌<◌, ◌+◌, ◌*◌, ℕ, All, length, replicate, slice_index, unsigned_abs};
+ghost use Rattle.std.specs.Prelude.{◌≡◌, ℤ, List, ◌≤◌, ◌<◌, ◌+◌, ◌*◌, ℕ, All, length, replicate, slice_index, unsigned_abs};
 ghost use Rattle.l3_base.specs.Rates.{hertz_index_of};
 ghost use Rattle.l3_tables.specs.Bands.{edges_at};
 ghost use Rattle.l3_region.specs.Split.{split_of};
+ghost use Rattle.l3_region.specs.Cut.{AreCutOf, as_lines};
 ghost use Rattle.l3_region.specs.Regions.{regions_of};
 ghost use Rattle.l3_region.specs.Laws.{HoldsAll, region};
 
 use crate::choice::{Row, best_pair, range_table};
+use crate::cut::{cut_of, peaks_of};
 use crate::quads::best_quads;
-use crate::split::Split;
+use crate::split::{Split, split_of_cut};
 use crate::sums::sum_bands;
 use l3_base::SampleRate;
 use l3_huff::QuadTable;
@@ -43,6 +45,61 @@ fn no_classes() -> [u8; 22]
     [0; 22]
 }
 
+/// The regions and tables of cut values that are split so.
+fn regions_of_cut(cut: &[u8; 576], peaks: &[u16; 22], split: Split, rate: SampleRate) -> Regions
+    requires known { (q : List ℤ) × AreCutOf (edges_at (hertz_index_of rate)) q cut.now peaks.now }
+    requires split { split ≡ split_of (as_lines cut.now) }
+    ensures value { (q : List ℤ) → AreCutOf (edges_at (hertz_index_of rate)) q cut.now peaks.now → result ≡ regions_of (edges_at (hertz_index_of rate)) q }
+    ensures limit { result.bits ≤ 9216 }
+    ensures first { result.region0 ≤ 15 }
+    ensures second { result.region1 ≤ 7 }
+    ensures within { result.region0 + result.region1 + 2 ≤ 22 }
+    ensures three { length result.tables ≡ 3 }
+    ensures held { (q : List ℤ) → AreCutOf (edges_at (hertz_index_of rate)) q cut.now peaks.now → (r : ℕ) → r < 3 → HoldsAll (slice_index result.tables r) (region (edges_at (hertz_index_of rate)) q result.region0 result.region1 r) }
+{
+    let end = 2 * usize::from(split.big);
+    let mut rows = no_sums();
+    let mut classes = no_classes();
+    sum_bands(cut, peaks, end, rate.index(), &mut rows, &mut classes);
+    let pair = best_pair(&rows, &classes);
+    let region0 = pair.place / 8;
+    let region1 = pair.place % 8;
+    let second = usize::from(region0) + 1;
+    let third = second + usize::from(region1) + 1;
+    let tables = [
+        range_table(&rows, &classes, 0, second),
+        range_table(&rows, &classes, second, third),
+        range_table(&rows, &classes, third, 22),
+    ];
+    let quads = best_quads(cut, end, usize::from(split.quads));
+    Regions {
+        region0,
+        region1,
+        tables,
+        quad: quads.table,
+        bits: pair.bits + quads.bits,
+    }
+}
+
+/// The split, and the regions and tables that take the fewest bits, of values that are known by their absolute values cut at 15 and by the greatest one of each band.
+///
+/// It is what `split_of` and `best` give for the values themselves. Errors: none.
+pub fn best_of_cut(cut: &[u8; 576], peaks: &[u16; 22], rate: SampleRate) -> (Split, Regions)
+    requires { (q : List ℤ) × AreCutOf (edges_at (hertz_index_of rate)) q cut.now peaks.now }
+    ensures value { (q : List ℤ) → AreCutOf (edges_at (hertz_index_of rate)) q cut.now peaks.now → (result.0 ≡ split_of q) × (result.1 ≡ regions_of (edges_at (hertz_index_of rate)) q) }
+    ensures places { 2 * result.0.big + 4 * result.0.quads ≤ 576 }
+    ensures limit { result.1.bits ≤ 9216 }
+    ensures first { result.1.region0 ≤ 15 }
+    ensures second { result.1.region1 ≤ 7 }
+    ensures within { result.1.region0 + result.1.region1 + 2 ≤ 22 }
+    ensures three { length result.1.tables ≡ 3 }
+    ensures held { (q : List ℤ) → AreCutOf (edges_at (hertz_index_of rate)) q cut.now peaks.now → (r : ℕ) → r < 3 → HoldsAll (slice_index result.1.tables r) (region (edges_at (hertz_index_of rate)) q result.1.region0 result.1.region1 r) }
+{
+    let split = split_of_cut(cut);
+    let regions = regions_of_cut(cut, peaks, split, rate);
+    (split, regions)
+}
+
 /// The regions and tables that take the fewest bits, for values of at most 8191 in absolute value.
 ///
 /// Of equal choices it is the one of least `region0_count`, then `region1_count`, with tables of least number, and table A for quadruples.
@@ -58,24 +115,5 @@ pub fn best(q: &[i16; 576], split: Split, rate: SampleRate) -> Regions
     ensures three { length result.tables ≡ 3 }
     ensures held { (r : ℕ) → r < 3 → HoldsAll (slice_index result.tables r) (region (edges_at (hertz_index_of rate)) q.now result.region0 result.region1 r) }
 {
-    let end = 2 * usize::from(split.big);
-    let mut rows = no_sums();
-    let mut classes = no_classes();
-    sum_bands(q, end, rate.index(), &mut rows, &mut classes);
-    let pair = best_pair(&rows, &classes);
-    let second = usize::from(pair.region0) + 1;
-    let third = second + usize::from(pair.region1) + 1;
-    let tables = [
-        range_table(&rows, &classes, 0, second),
-        range_table(&rows, &classes, second, third),
-        range_table(&rows, &classes, third, 22),
-    ];
-    let quads = best_quads(q, end, usize::from(split.quads));
-    Regions {
-        region0: pair.region0,
-        region1: pair.region1,
-        tables,
-        quad: quads.table,
-        bits: pair.bits + quads.bits,
-    }
+    regions_of_cut(&cut_of(q), &peaks_of(q, rate.index()), split, rate)
 }

@@ -8,8 +8,7 @@ pub loop-region0-init : goal.loop-region0-init
 loop-region0-init c = record {
   class_is = sym (class_from-none c.args.classes.now 0);
   best = best_none (pair_cost c.args.rows.now c.args.classes.now) 0;
-  small0 = omega arith;
-  small1 = omega arith;
+  place = omega arith;
 }
 
 pub range_bits-first-requires-clause-class : goal.range_bits-first-requires-clause-class
@@ -30,6 +29,5 @@ loop-region0-preserved c =
     record {
       class_is = omega (arith, class_from-more classes 0 r, ap (λ i. get_or classes i 0) place, c.loop-region0.invariant.class_is, c.max-class.ensures);
       best = rw next at best;
-      small0 = c.best_second-best.ensures.small0;
-      small1 = c.best_second-best.ensures.small1;
+      place = c.best_second-best.ensures.place;
     }

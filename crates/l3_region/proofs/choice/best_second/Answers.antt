@@ -3,9 +3,28 @@ use Rattle.std.proofs.lemmas.Bool.{cases_lt}
 use Rattle.l3_region.specs.declared.choice.Pair.{Pair}
 use Rattle.l3_region.specs.Lanes.{IsBestPair, IsPair, class_from, pair_cost, range_cost}
 use Rattle.l3_region.proofs.LaneLemmas.{class_from-none, class_from-more, range_cost-small}
-use Rattle.l3_region.proofs.Pairs.{best_moves, best_keeps, pair_cost-is, eighth}
+use Rattle.l3_region.proofs.Pairs.{best_moves, best_keeps, best_skips, pair_cost-is, eighth}
 use Rattle.l3_region.proofs.choice.best_second.Goals as goal
 use Rattle.l3_region.proofs.choice.best_second.Goals.{then-others-floors, else-others-floors}
+
+pub overflow_sub-floors : goal.overflow_sub-floors
+overflow_sub-floors c =
+    let from = c.from-from.result + 1 in
+    let last : from + (22 - from) ≡ 22 = omega (arith, c.from-from.ensures, c.requires.region0) in
+    omega (arith, (c.requires.floors from (22 - from) (omega arith)).0, ap (λ i. get_or c.args.floors.now i 0) last)
+
+-- no pair of this row takes fewer bits
+pub returns-then-first-floors-clause-best : goal.returns-then-first-floors-clause-best
+returns-then-first-floors-clause-best c =
+    let a = c.args.region0 in
+    let rows = c.args.rows.now in
+    let classes = c.args.classes.now in
+    let floors = c.args.floors.now in
+    let s = c.args.so_far in
+    let start : c.from-from.result + 1 ≡ a + 1 = omega (arith, c.from-from.ensures) in
+    let floor = ap (λ i. get_or floors i 0) start in
+    best_skips rows classes floors a s.place s.bits c.requires.floors c.requires.region0 (omega (arith, c.requires.first, c.requires.limit)) (c.requires.floor 22 (omega arith))
+    (omega (arith, c.if-first-floors.true, c.requires.first, floor)) c.requires.before
 
 pub loop-region1-init : goal.loop-region1-init
 loop-region1-init c =
@@ -13,8 +32,7 @@ loop-region1-init c =
     record {
       class_is = sym (class_from-none c.args.classes.now (c.from-from.result + 1));
       best = rw start c.requires.before;
-      small0 = c.requires.small0;
-      small1 = c.requires.small1;
+      place = c.requires.place;
     }
 
 -- the class of one band more
@@ -34,11 +52,10 @@ range_bits-requires-clause-class c =
     class_more c.args.classes.now from r c.loop-region1.class c.max-class.result c.loop-region1.invariant.class_is now ∙ ap (class_from c.args.classes.now from) (sym many)
 
 -- what is known of the pair that is kept
-kept : (f : ℕ → ℕ) (n : ℕ) (p s : Pair) → p ≡ s → IsBestPair f n (8 * s.region0 + s.region1) s.bits → s.region0 ≤ 15 → s.region1 ≤ 7 →
-    IsBestPair f n (8 * p.region0 + p.region1) p.bits × (p.region0 ≤ 15) × (p.region1 ≤ 7)
-kept f n p s e best small0 small1 =
-    let P : Pair → Type 0 = λ x. IsBestPair f n (8 * x.region0 + x.region1) x.bits × (x.region0 ≤ 15) × (x.region1 ≤ 7) in
-    subst P (sym e) (best, small0, small1)
+kept : (f : ℕ → ℕ) (n : ℕ) (p s : Pair) → p ≡ s → IsBestPair f n s.place s.bits → s.place < 128 → IsBestPair f n p.place p.bits × (p.place < 128)
+kept f n p s e best place =
+    let P : Pair → Type 0 = λ x. IsBestPair f n x.place x.bits × (x.place < 128) in
+    subst P (sym e) (best, place)
 
 pub loop-region1-preserved : goal.loop-region1-preserved
 loop-region1-preserved c =
@@ -74,25 +91,24 @@ loop-region1-preserved c =
     let best = c.loop-region1.best in
     let next : 8 * a + r + 1 ≡ 8 * a + (r + 1) = omega arith in
     let p = c.if-others-floors.best in
-    let P : ℕ → Type 0 = λ n. IsBestPair f n (8 * p.region0 + p.region1) p.bits in
-    let all : IsBestPair f (8 * a + r + 1) (8 * p.region0 + p.region1) p.bits × (p.region0 ≤ 15) × (p.region1 ≤ 7) = elim c.if-others-floors.branch [
+    let P : ℕ → Type 0 = λ n. IsBestPair f n p.place p.bits in
+    let all : IsBestPair f (8 * a + r + 1) p.place p.bits × (p.place < 128) = elim c.if-others-floors.branch [
       | then-others-floors w ↦
           (let bits : ℕ = others + w.range_bits.result in
           let cost : bits ≡ f (8 * a + r) = omega (arith, own, w.range_bits.ensures.value) in
           let under : bits < 2 ^ 32 - 1 = omega (arith, small, w.range_bits.ensures.value) in
           elim (cases_lt bits best.bits) [
-            | inl fewer ↦ kept f (8 * a + r + 1) p (record { region0 = a; region1 = r; bits = bits }) (w.best-is ∙ w.better-best.ensures.second fewer)
-                (best_moves f (8 * a + r) (8 * best.region0 + best.region1) best.bits bits inv.best pair cost fewer) c.requires.region0 (omega (arith, less))
+            | inl fewer ↦ kept f (8 * a + r + 1) p (record { place = 8 * a + r; bits = bits }) (w.best-is ∙ w.better-best.ensures.second fewer)
+                (best_moves f (8 * a + r) best.place best.bits bits inv.best pair cost fewer) (omega (arith, less, c.requires.region0))
             | inr worse ↦ kept f (8 * a + r + 1) p best (w.best-is ∙ w.better-best.ensures.first worse)
-                (best_keeps f (8 * a + r) (8 * best.region0 + best.region1) best.bits bits inv.best cost under worse) inv.small0 inv.small1
+                (best_keeps f (8 * a + r) best.place best.bits bits inv.best cost under worse) inv.place
           ])
       | else-others-floors w ↦
           (let worse : best.bits ≤ others + middle = omega (arith, w.if-others-floors.false, apart.0, apart.1, floor) in
-          kept f (8 * a + r + 1) p best w.best-is (best_keeps f (8 * a + r) (8 * best.region0 + best.region1) best.bits (others + middle) inv.best own small worse) inv.small0 inv.small1)
+          kept f (8 * a + r + 1) p best w.best-is (best_keeps f (8 * a + r) best.place best.bits (others + middle) inv.best own small worse) inv.place)
     ] in
     record {
       class_is = class_more classes from r c.loop-region1.class c.max-class.result inv.class_is now;
       best = subst P next all.0;
-      small0 = all.1;
-      small1 = all.2;
+      place = all.1;
     }
