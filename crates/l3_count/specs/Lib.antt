@@ -2,8 +2,10 @@ pub use Rattle.l3_base.specs.Rates
 pub use Rattle.l3_base.specs.Spectrum
 pub use Rattle.l3_quant.specs.Quantiser
 pub use Rattle.l3_quant.specs.Gains
+pub use Rattle.l3_quant.specs.Magnitudes
 pub use Rattle.l3_huff.specs.Tables
 pub use Rattle.l3_region.specs.Bands
+pub use Rattle.l3_region.specs.Cut
 pub use Rattle.l3_region.specs.Split
 pub use Rattle.l3_region.specs.Regions
 pub use Rattle.l3_region.specs.Laws as RegionLaws

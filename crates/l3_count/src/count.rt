@@ -1,10 +1,11 @@
-ghost use Rattle.std.specs.Prelude.{◌≡◌, ◌≤◌, ◌<◌, ◌+◌, ◌*◌, ℕ, All, length, slice_index, unsigned_abs};
+ghost use Rattle.std.specs.Prelude.{◌≡◌, ◌≤◌, ◌<◌, ◌+◌, ◌*◌, ℕ, ℤ, List, length, slice_index};
 ghost use Rattle.l3_base.specs.Rates.{hertz_index_of};
 ghost use Rattle.l3_region.specs.Bands.{edges_at};
+ghost use Rattle.l3_region.specs.Cut.{AreCutOf};
 ghost use Rattle.l3_huff.specs.Tables.{IsTable};
 
 use l3_base::SampleRate;
-use l3_region::{QuadTable, Regions, Split, best, split_of};
+use l3_region::{QuadTable, Regions, Split, best_of_cut};
 use std::marker::Model;
 
 /// What a unit costs at a gain, with the split, regions and tables that its bits are for. It has at most 16 bytes.
@@ -76,13 +77,12 @@ impl Count {
         }
     }
 
-    /// The count of quantised values at a gain.
-    pub(crate) fn of_values(q: &[i16; 576], rate: SampleRate, gain: u8) -> Count
-        requires { All (λ x. unsigned_abs x ≤ 8191) q.now }
-        ensures { result ≡ counted (edges_at (hertz_index_of rate)) gain q.now }
+    /// The count at a gain of quantised values that are known by their absolute values cut at 15 and by the greatest one of each band.
+    pub(crate) fn of_cut(cut: &[u8; 576], peaks: &[u16; 22], rate: SampleRate, gain: u8) -> Count
+        requires { (q : List ℤ) × AreCutOf (edges_at (hertz_index_of rate)) q cut.now peaks.now }
+        ensures { (q : List ℤ) → AreCutOf (edges_at (hertz_index_of rate)) q cut.now peaks.now → result ≡ counted (edges_at (hertz_index_of rate)) gain q }
     {
-        let split = split_of(q);
-        let regions = best(q, split, rate);
+        let (split, regions) = best_of_cut(cut, peaks, rate);
         let tables = regions.tables;
         Count {
             bits: regions.bits as u16,

@@ -6,15 +6,23 @@ ghost use Rattle.l3_count.specs.Count.{count_of};
 
 use crate::count::Count;
 use l3_base::{SampleRate, Spectrum, Steps};
-use l3_quant::all;
+use l3_quant::{band_peaks, cut_values};
 use std::sync::ledger::Ledger;
 
-/// Room for 576 quantised values.
+/// Room for 576 absolute values.
 #[inline(always)]
-fn no_values() -> [i16; 576]
-    ensures { result ≡ replicate 576 (pos 0) }
+fn no_values() -> [u8; 576]
+    ensures { result ≡ replicate 576 0 }
 {
     [0; 576]
+}
+
+/// Room for the peaks of 22 bands.
+#[inline(always)]
+fn no_peaks() -> [u16; 22]
+    ensures { result ≡ replicate 22 0 }
+{
+    [0; 22]
 }
 
 /// What a unit costs at a gain, or `None` exactly where a quantised value is above 8191 either way. It is one step of the counter, in both cases.
@@ -30,9 +38,11 @@ pub fn count_at<L: Ledger + Send>(
     ensures ticks { steps.new ≡ steps.old + 1 }
 {
     steps.tick();
-    let mut q = no_values();
-    if all(spec, i16::from(gain), &mut q) {
-        Some(Count::of_values(&q, rate, gain))
+    let mut peaks = no_peaks();
+    if band_peaks(spec, rate, i16::from(gain), &mut peaks) {
+        let mut cut = no_values();
+        cut_values(spec, i16::from(gain), &mut cut);
+        Some(Count::of_cut(&cut, &peaks, rate, gain))
     } else {
         None
     }
