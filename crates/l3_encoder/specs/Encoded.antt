@@ -66,12 +66,16 @@ pub record IsReport (rate : Rate) (bytes : List ℕ) (report : Report) : Type 0 
   pub frames : report.frames ≡ frames_in bytes
   pub tried : report.tried ≡ tried_in rate bytes
 
+-- its head is accepted
+abbrev pub IsAccepted : List ℕ → Type 0
+IsAccepted bytes = (head : WavHead) × (wav_of bytes ≡ Ok head)
+
 -- what an answer says: `left` and `left_now` are what the source told before and after, `old` and `new` what the sink stood for
 abbrev pub Explains : Rate → Result Report EncodeFault → (source_rose sink_rose untouched : Type 0) (left left_now : Option (List ℕ)) (old new : List ℕ → Type 0) → Type 0
 Explains rate (Ok report) source_rose sink_rose untouched left left_now old new =
     (report.made ≡ report.tried) × IfSome left (λ bytes.
     IsSomeAnd (encoding_in rate bytes) (λ stream. Takes old new stream) × (left_now ≡ Some (rest_in bytes)) × IsReport rate bytes report)
-Explains rate (Err Memory) source_rose sink_rose untouched left left_now old new = untouched
+Explains rate (Err Memory) source_rose sink_rose untouched left left_now old new = IfSome left IsAccepted × untouched
 Explains rate (Err (Wav why)) source_rose sink_rose untouched left left_now old new =
     IfSome left (λ bytes. wav_of bytes ≡ Err why) × (why ≢ fault.Read) × untouched
 Explains rate (Err Read) source_rose sink_rose untouched left left_now old new = source_rose × untouched

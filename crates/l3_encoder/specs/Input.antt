@@ -1,5 +1,5 @@
 -- The two halves of an encoding: reading samples, and writing their encoding.
-use Rattle.std.specs.Prelude.{◌≡◌, ◌≢◌, ℕ, List, length, ℤ, Option, Some, Result, Ok, Err, IfSome, ⊤}
+use Rattle.std.specs.Prelude.{◌≡◌, ◌≢◌, ℕ, List, length, ℤ, Option, Some, Result, Ok, Err, IfSome}
 use Rattle.l3_base.specs.declared.rate.Rate.{Rate}
 use Rattle.l3_base.specs.declared.settings.Settings.{Settings}
 use Rattle.l3_io.specs.Taken.{Takes, TakesPrefix}
@@ -10,7 +10,7 @@ use Rattle.l3_commit.specs.declared.report.Report.{Report}
 use Rattle.l3_commit.specs.declared.report.EncodeFault.{EncodeFault}
 use Rattle.l3_commit.specs.declared.report.EncodeFault.TheVariants.{Memory, Wav, Read, Write}
 use Rattle.l3_commit.specs.Encoding.{frames_for, encoding_of, gains_tried}
-use Rattle.l3_encoder.specs.Encoded.{settings_at, left_in, right_in, rest_in}
+use Rattle.l3_encoder.specs.Encoded.{settings_at, left_in, right_in, rest_in, IsAccepted}
 
 -- settings and samples are those of a file, of which what follows the data is left
 pub record IsInput (rate : Rate) (bytes : List ℕ) (st : Settings) (left right : List ℤ) (left_now : Option (List ℕ)) : Type 0 where
@@ -23,7 +23,7 @@ pub record IsInput (rate : Rate) (bytes : List ℕ) (st : Settings) (left right 
 
 -- why they were not read; a write fault it never is
 abbrev pub RefusesInput : EncodeFault → (source_rose : Type 0) → Option (List ℕ) → Type 0
-RefusesInput Memory source_rose left = ⊤
+RefusesInput Memory source_rose left = IfSome left IsAccepted
 RefusesInput (Wav why) source_rose left = IfSome left (λ bytes. wav_of bytes ≡ Err why) × (why ≢ fault.Read)
 RefusesInput Read source_rose left = source_rose
 RefusesInput Write source_rose left = ⊥
