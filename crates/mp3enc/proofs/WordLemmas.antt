@@ -1,12 +1,11 @@
--- The number that a word writes, and the rate that words ask for.
-use Rattle.std.proofs.Common.{◌≡◌, ◌∙◌, inl, inr, sym, ap, refl, ℕ, ◌<◌, ◌≤◌, Bool, false, eqb, List, [], ◌∷◌, length, get_or, arith}
+-- The number that a word writes, and what words ask for.
+use Rattle.std.proofs.Common.{◌≡◌, ◌∙◌, inl, inr, sym, ap, refl, ℕ, ◌<◌, ◌≤◌, Bool, false, eqb, List, [], ◌∷◌, arith}
 use Rattle.std.proofs.lemmas.Bool.Decides.{eqb_tells}
-use Rattle.std.specs.Prelude.{Option, Some, None, IfSome, IfNone, find, ◌==◌, ◌&&◌, codes, if◌then◌else◌}
-use Rattle.std.specs.Str.{bytes_eq}
+use Rattle.std.specs.Prelude.{Option, Some, None, IfSome, IfNone, find, ◌==◌}
 use Rattle.l3_base.specs.declared.rate.Rate.{Rate}
 use Rattle.l3_base.specs.declared.rate.Rate.TheVariants.{K32, K40, K48, K56, K64, K80, K96, K112, K128, K160, K192, K224, K256, K320}
 use Rattle.l3_base.specs.Rates.{kbits_of, IsNoRate}
-use Rattle.mp3enc.specs.Words.{rates, rate_of, rate_of_word, rate_of_words}
+use Rattle.mp3enc.specs.Words.{rates, rate_of}
 
 -- each rate is found by its number
 found : (rate : Rate) → rate_of (kbits_of rate) ≡ Some rate
@@ -61,26 +60,3 @@ low K320 = omega arith
 -- no rate is above 320 kbit/s
 pub no_rate_above : (kbits : ℕ) → 320 < kbits → None ≡ rate_of kbits
 no_rate_above kbits above = sym (no_rate kbits (λ rate is. absurd (omega (arith, above, is, low rate))))
-
--- one word
-pub one_word : (words : List (List ℕ)) → length words ≡ 1 → rate_of_words words ≡ (if bytes_eq (get_or words 0 []) (codes "encode") then Some K128 else None)
-one_word [] long = cc
-one_word (a ∷ []) long = refl
-one_word (a ∷ b ∷ words) long = absurd (omega (arith, long))
-
--- three words
-pub three_words : (words : List (List ℕ)) → length words ≡ 3 → rate_of_words words ≡
-    (if bytes_eq (get_or words 0 []) (codes "encode") && bytes_eq (get_or words 1 []) (codes "--rate") then rate_of_word (get_or words 2 []) else None)
-three_words [] long = cc
-three_words (a ∷ []) long = absurd (omega (arith, long))
-three_words (a ∷ b ∷ []) long = absurd (omega (arith, long))
-three_words (a ∷ b ∷ c ∷ []) long = refl
-three_words (a ∷ b ∷ c ∷ d ∷ words) long = absurd (omega (arith, long))
-
--- another number of words
-pub other_words : (words : List (List ℕ)) → (length words ≡ 1 → ⊥) → (length words ≡ 3 → ⊥) → rate_of_words words ≡ None
-other_words [] one three = refl
-other_words (a ∷ []) one three = absurd (one refl)
-other_words (a ∷ b ∷ []) one three = refl
-other_words (a ∷ b ∷ c ∷ []) one three = absurd (three refl)
-other_words (a ∷ b ∷ c ∷ d ∷ words) one three = refl

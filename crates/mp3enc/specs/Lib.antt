@@ -1,4 +1,6 @@
+pub mod Check
 pub mod Program
 pub mod Status
 pub mod Words
 pub use Rattle.l3_encoder.specs.Encoded
+pub use Rattle.l3_stream.specs.Deviation

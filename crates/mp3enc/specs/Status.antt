@@ -1,7 +1,9 @@
 -- How a run ended: its status, the number and the text of it.
-use Rattle.std.specs.Prelude.{List, ℕ, [], ◌∷◌, ◌++◌, codes}
+use Rattle.std.specs.Prelude.{List, ℕ, [], ◌∷◌, ◌++◌, codes, decimal}
 use Rattle.l3_wav.specs.declared.fault.WavFault.{WavFault}
 use Rattle.l3_wav.specs.declared.fault.WavFault.TheVariants as fault
+use Rattle.l3_stream.specs.declared.fault.StreamFault.{StreamFault}
+use Rattle.l3_stream.specs.declared.fault.StreamFault.TheVariants as stream
 use Rattle.mp3enc.specs.declared.status.Status.{Status}
 use Rattle.mp3enc.specs.declared.status.Status.TheVariants as status
 use Rattle.mp3enc.specs.declared.ending.Ending.{Ending}
@@ -36,6 +38,7 @@ abbrev pub status_of : Ending → Status
 status_of ending.Done = status.Ok
 status_of ending.Usage = status.Usage
 status_of (ending.Refused why) = refusal_of why
+status_of (ending.Deviates fault) = status.BadStream
 status_of ending.ReadFault = status.ReadFault
 status_of ending.WriteFault = status.WriteFault
 status_of ending.Memory = status.Memory
@@ -57,11 +60,42 @@ refusal_text fault.UnsupportedDepth = line (codes "mp3enc: wav: UnsupportedDepth
 refusal_text fault.BadBlockAlign = line (codes "mp3enc: wav: BadBlockAlign")
 refusal_text fault.Read = line (codes "mp3enc: read fault")
 
+-- the name of a stream's fault
+abbrev pub name_of : StreamFault → List ℕ
+name_of (stream.BadHeader at) = codes "BadHeader"
+name_of (stream.ShortFrame at) = codes "ShortFrame"
+name_of (stream.BadSide at) = codes "BadSide"
+name_of (stream.BadBegin at) = codes "BadBegin"
+name_of (stream.BadCode at) = codes "BadCode"
+name_of (stream.WrongLength at) = codes "WrongLength"
+name_of (stream.NotZero at) = codes "NotZero"
+name_of stream.Read = codes "Read"
+name_of stream.Memory = codes "Memory"
+name_of (stream.TooLong at) = codes "TooLong"
+
+-- its place: a byte of the file, or a bit of the tape; a failed read and want of memory have none
+abbrev pub place_of : StreamFault → ℕ
+place_of (stream.BadHeader at) = at
+place_of (stream.ShortFrame at) = at
+place_of (stream.BadSide at) = at
+place_of (stream.BadBegin at) = at
+place_of (stream.BadCode at) = at
+place_of (stream.WrongLength at) = at
+place_of (stream.NotZero at) = at
+place_of stream.Read = 0
+place_of stream.Memory = 0
+place_of (stream.TooLong at) = at
+
+-- the line of a stream that deviates
+abbrev pub deviation_text : StreamFault → List ℕ
+deviation_text fault = codes "mp3enc: stream: " ++ name_of fault ++ codes " at " ++ decimal (place_of fault) ++ 10 ∷ []
+
 -- what notes are told
 abbrev pub text_of : Ending → List ℕ
 text_of ending.Done = []
 text_of ending.Usage = line (codes "mp3enc: usage: mp3enc encode, check or demo FRAMES SEED")
 text_of (ending.Refused why) = refusal_text why
+text_of (ending.Deviates fault) = deviation_text fault
 text_of ending.ReadFault = line (codes "mp3enc: read fault")
 text_of ending.WriteFault = line (codes "mp3enc: write fault")
 text_of ending.Memory = line (codes "mp3enc: out of memory")

@@ -1,4 +1,4 @@
--- The words of the command line that are taken, and the rate that they ask for.
+-- The words of the command line that are taken, and what they ask for.
 use Rattle.std.specs.Prelude.{List, ℕ, ◌+◌, ◌-◌, ◌*◌, ◌==◌, ◌&&◌, Bool, [], ◌∷◌, Option, Some, None, length, fold, find, nat_le, codes, if◌then◌else◌}
 use Rattle.std.specs.List.{list_all}
 use Rattle.std.specs.Char.{is_ascii_digit}
@@ -6,6 +6,8 @@ use Rattle.std.specs.Str.{bytes_eq}
 use Rattle.l3_base.specs.declared.rate.Rate.{Rate}
 use Rattle.l3_base.specs.declared.rate.Rate.TheVariants.{K32, K40, K48, K56, K64, K80, K96, K112, K128, K160, K192, K224, K256, K320}
 use Rattle.l3_base.specs.Rates.{kbits_of}
+use Rattle.mp3enc.specs.declared.words.Command.{Command}
+use Rattle.mp3enc.specs.declared.words.Command.TheVariants.{Encode, Check}
 
 -- a number with one more decimal digit behind it; the digit 0 is the byte 48
 abbrev pub with_digit : ℕ → ℕ → ℕ
@@ -31,8 +33,17 @@ rate_of kbits = find (λ rate. kbits_of rate == kbits) rates
 abbrev pub rate_of_word : List ℕ → Option Rate
 rate_of_word word = if is_number word then rate_of (number_of_digits word) else None
 
--- the rate that the words ask for, 128 kbit/s where they name none; no rate where they are refused
-abbrev pub rate_of_words : List (List ℕ) → Option Rate
-rate_of_words (command ∷ []) = if bytes_eq command (codes "encode") then Some K128 else None
-rate_of_words (command ∷ option ∷ number ∷ []) = if bytes_eq command (codes "encode") && bytes_eq option (codes "--rate") then rate_of_word number else None
-rate_of_words words = None
+-- the command that encodes at a rate, where there is one
+abbrev pub encode_at : Option Rate → Option Command
+encode_at (Some rate) = Some (Encode rate)
+encode_at None = None
+
+-- the command of one word; `encode` asks for 128 kbit/s
+abbrev pub command_of_word : List ℕ → Option Command
+command_of_word word = if bytes_eq word (codes "encode") then Some (Encode K128) else if bytes_eq word (codes "check") then Some Check else None
+
+-- what the words ask for; nothing where they are refused
+abbrev pub command_of : List (List ℕ) → Option Command
+command_of (word ∷ []) = command_of_word word
+command_of (word ∷ option ∷ number ∷ []) = if bytes_eq word (codes "encode") && bytes_eq option (codes "--rate") then encode_at (rate_of_word number) else None
+command_of words = None

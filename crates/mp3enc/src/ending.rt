@@ -1,10 +1,13 @@
-ghost use Rattle.std.specs.Prelude.{◌≡◌};
-ghost use Rattle.mp3enc.specs.Status.{refusal_of, refusal_text};
+ghost use Rattle.std.specs.Prelude.{◌≡◌, ◌≤◌, length};
+ghost use Rattle.mp3enc.specs.Status.{refusal_of, refusal_text, name_of, place_of, deviation_text};
 
 use crate::status::Status;
+use arrayvec::ArrayString;
+use itoa::Buffer;
+use l3_reader::StreamFault;
 use l3_wav::WavFault;
 
-/// How a run of the program ended, with the fault that refused a head.
+/// How a run of the program ended, with the fault for which the input was refused.
 #[derive(Clone, Copy, Debug, PartialEq, Eq)]
 pub enum Ending {
     /// The command is done.
@@ -13,6 +16,8 @@ pub enum Ending {
     Usage,
     /// The head of the WAV file is refused.
     Refused(WavFault),
+    /// The stream is none of this encoder's, by its first deviation; neither a failed read nor want of memory.
+    Deviates(StreamFault),
     /// A read failed.
     ReadFault,
     /// A write failed, or took nothing.
@@ -25,7 +30,7 @@ impl Ending {
     ghost use Rattle.std.specs.Prelude.{◌≡◌};
     ghost use Rattle.mp3enc.specs.Status.{status_of, text_of};
 
-    /// The status: a head is refused for good where it is no WAV file's, or of a form that is never encoded.
+    /// The status: a head is refused where it is no WAV file's, or of a form that is never encoded.
     pub fn status(self) -> Status
         ensures { result ≡ status_of self }
     {
@@ -33,6 +38,7 @@ impl Ending {
             Ending::Done => Status::Ok,
             Ending::Usage => Status::Usage,
             Ending::Refused(fault) => refusal(fault),
+            Ending::Deviates(_) => Status::BadStream,
             Ending::ReadFault => Status::ReadFault,
             Ending::WriteFault => Status::WriteFault,
             Ending::Memory => Status::Memory,
@@ -40,18 +46,29 @@ impl Ending {
     }
 
     /// The line that notes are told, empty at success.
-    pub fn text(self) -> &'static [u8]
-        ensures { result.now ≡ text_of self }
+    pub fn text(self) -> ArrayString<64>
+        ensures { result.bytes ≡ text_of self }
     {
         match self {
-            Ending::Done => b"",
-            Ending::Usage => b"mp3enc: usage: mp3enc encode, check or demo FRAMES SEED\n",
-            Ending::Refused(fault) => refusal_line(fault),
-            Ending::ReadFault => b"mp3enc: read fault\n",
-            Ending::WriteFault => b"mp3enc: write fault\n",
-            Ending::Memory => b"mp3enc: out of memory\n",
+            Ending::Done => ArrayString::new(),
+            Ending::Usage => text("mp3enc: usage: mp3enc encode, check or demo FRAMES SEED\n"),
+            Ending::Refused(fault) => text(refusal_line(fault)),
+            Ending::Deviates(fault) => deviation_line(fault),
+            Ending::ReadFault => text("mp3enc: read fault\n"),
+            Ending::WriteFault => text("mp3enc: write fault\n"),
+            Ending::Memory => text("mp3enc: out of memory\n"),
         }
     }
+}
+
+// A text of at most 64 bytes.
+fn text(bytes: &str) -> ArrayString<64>
+    requires { length bytes.now ≤ 64 }
+    ensures { result.bytes ≡ bytes.now }
+{
+    let mut text = ArrayString::new();
+    text.push_str(bytes);
+    text
 }
 
 // The status of a head that is refused.
@@ -73,19 +90,70 @@ fn refusal(fault: WavFault) -> Status
 }
 
 // The line of a head that is refused.
-fn refusal_line(fault: WavFault) -> &'static [u8]
-    ensures { result.now ≡ refusal_text fault }
+fn refusal_line(fault: WavFault) -> &'static str
+    ensures value { result.now ≡ refusal_text fault }
+    ensures limit { length result.now ≤ 64 }
 {
     match fault {
-        WavFault::NotRiff => b"mp3enc: wav: NotRiff\n",
-        WavFault::HeaderEnds => b"mp3enc: wav: HeaderEnds\n",
-        WavFault::NoFmtBeforeData => b"mp3enc: wav: NoFmtBeforeData\n",
-        WavFault::HeaderTooLong => b"mp3enc: wav: HeaderTooLong\n",
-        WavFault::UnsupportedFormat => b"mp3enc: wav: UnsupportedFormat\n",
-        WavFault::UnsupportedChannels => b"mp3enc: wav: UnsupportedChannels\n",
-        WavFault::UnsupportedRate => b"mp3enc: wav: UnsupportedRate\n",
-        WavFault::UnsupportedDepth => b"mp3enc: wav: UnsupportedDepth\n",
-        WavFault::BadBlockAlign => b"mp3enc: wav: BadBlockAlign\n",
-        WavFault::Read => b"mp3enc: read fault\n",
+        WavFault::NotRiff => "mp3enc: wav: NotRiff\n",
+        WavFault::HeaderEnds => "mp3enc: wav: HeaderEnds\n",
+        WavFault::NoFmtBeforeData => "mp3enc: wav: NoFmtBeforeData\n",
+        WavFault::HeaderTooLong => "mp3enc: wav: HeaderTooLong\n",
+        WavFault::UnsupportedFormat => "mp3enc: wav: UnsupportedFormat\n",
+        WavFault::UnsupportedChannels => "mp3enc: wav: UnsupportedChannels\n",
+        WavFault::UnsupportedRate => "mp3enc: wav: UnsupportedRate\n",
+        WavFault::UnsupportedDepth => "mp3enc: wav: UnsupportedDepth\n",
+        WavFault::BadBlockAlign => "mp3enc: wav: BadBlockAlign\n",
+        WavFault::Read => "mp3enc: read fault\n",
     }
+}
+
+// The name of a stream's fault.
+fn name(fault: StreamFault) -> &'static str
+    ensures value { result.now ≡ name_of fault }
+    ensures limit { length result.now ≤ 11 }
+{
+    match fault {
+        StreamFault::BadHeader(_) => "BadHeader",
+        StreamFault::ShortFrame(_) => "ShortFrame",
+        StreamFault::BadSide(_) => "BadSide",
+        StreamFault::BadBegin(_) => "BadBegin",
+        StreamFault::BadCode(_) => "BadCode",
+        StreamFault::WrongLength(_) => "WrongLength",
+        StreamFault::NotZero(_) => "NotZero",
+        StreamFault::Read => "Read",
+        StreamFault::Memory => "Memory",
+        StreamFault::TooLong(_) => "TooLong",
+    }
+}
+
+// The byte of the file or the bit of the tape at which it is.
+fn place(fault: StreamFault) -> u64
+    ensures { result ≡ place_of fault }
+{
+    match fault {
+        StreamFault::BadHeader(at)
+        | StreamFault::ShortFrame(at)
+        | StreamFault::BadSide(at)
+        | StreamFault::BadBegin(at)
+        | StreamFault::BadCode(at)
+        | StreamFault::WrongLength(at)
+        | StreamFault::NotZero(at)
+        | StreamFault::TooLong(at) => at,
+        StreamFault::Read | StreamFault::Memory => 0,
+    }
+}
+
+// The line of a stream that deviates.
+fn deviation_line(fault: StreamFault) -> ArrayString<64>
+    ensures { result.bytes ≡ deviation_text fault }
+{
+    let mut digits = Buffer::new();
+    let mut line = ArrayString::new();
+    line.push_str("mp3enc: stream: ");
+    line.push_str(name(fault));
+    line.push_str(" at ");
+    line.push_str(digits.format(place(fault)));
+    line.push_str("\n");
+    line
 }

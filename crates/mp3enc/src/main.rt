@@ -1,13 +1,16 @@
-//! WAV on standard input -> MP3 on standard output; how it ended -> standard error and the exit status.
+//! WAV on standard input -> MP3 on standard output, or an MP3 stream -> whether and how far it can be read; how it ended ->
+//! standard error and the exit status.
 //!
-//! Before: `l3_encoder`. After: nothing; this is the program.
+//! Before: `l3_encoder`, `l3_reader`. After: nothing; this is the program.
 #![tactic(auto)]
 
+mod check;
 mod ending;
 mod program;
 mod status;
 mod words;
 
+pub use check::bits_are_code_bits;
 use l3_io::{StdSink, StdSource};
 pub use program::run_alone;
 pub use status::Status;

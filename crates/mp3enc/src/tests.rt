@@ -33,8 +33,16 @@ fn zeros(alloc: Global, channels: u8, hertz: [u8; 2], values: u16) -> Result<Vec
     Ok(bytes)
 }
 
+// The stream of one zero sample: one channel, 44100 Hz, 128 kbit/s; main_data_begin of the second frame is 396.
+fn zero_sample() -> [u8; 835] {
+    let mut stream = [0; 835];
+    stream[..4].copy_from_slice(&[0xFF, 0xFB, 0x90, 0xC0]);
+    stream[417..423].copy_from_slice(&[0xFF, 0xFB, 0x92, 0xC0, 0xC6, 0x00]);
+    stream
+}
+
 // How a run ended, what a sink took of it, what notes say, and what is left of the source.
-fn encoded(
+fn run(
     rt: &HostRuntime,
     words: &[&str],
     bytes: &[u8],
@@ -52,12 +60,9 @@ fn encoded(
 #[test]
 fn one_zero_sample(rt: HostRuntime) -> Result<(), Fail> {
     let bytes = zeros(rt.alloc(), 1, [0x44, 0xAC], 1)?;
-    let (status, sink, notes, _) = encoded(&rt, &["encode"], bytes.as_slice(), 10000, &[])?;
+    let (status, sink, notes, _) = run(&rt, &["encode"], bytes.as_slice(), 10000, &[])?;
     assert_eq!(rt; status, Some(Status::Ok));
-    let mut stream = [0; 835];
-    stream[..4].copy_from_slice(&[0xFF, 0xFB, 0x90, 0xC0]);
-    stream[417..423].copy_from_slice(&[0xFF, 0xFB, 0x92, 0xC0, 0xC6, 0x00]);
-    assert_eq!(rt; sink.bytes(), stream.as_slice());
+    assert_eq!(rt; sink.bytes(), zero_sample().as_slice());
     assert_eq!(rt; notes.bytes().len(), 0);
     Ok(())
 }
@@ -65,7 +70,7 @@ fn one_zero_sample(rt: HostRuntime) -> Result<(), Fail> {
 #[test]
 fn zeros_over_two_frames(rt: HostRuntime) -> Result<(), Fail> {
     let bytes = zeros(rt.alloc(), 1, [0x44, 0xAC], 1153)?;
-    let (status, sink, _, _) = encoded(&rt, &["encode"], bytes.as_slice(), 10000, &[])?;
+    let (status, sink, _, _) = run(&rt, &["encode"], bytes.as_slice(), 10000, &[])?;
     assert_eq!(rt; status, Some(Status::Ok));
     assert_eq!(rt; sink.bytes().len(), 417 + 418 + 418);
     let third = sink.bytes().get(835..).unwrap_or(&[]);
@@ -75,7 +80,7 @@ fn zeros_over_two_frames(rt: HostRuntime) -> Result<(), Fail> {
 
 #[test]
 fn no_samples(rt: HostRuntime) -> Result<(), Fail> {
-    let (status, sink, _, _) = encoded(&rt, &["encode"], &HEAD, 10000, &[])?;
+    let (status, sink, _, _) = run(&rt, &["encode"], &HEAD, 10000, &[])?;
     assert_eq!(rt; status, Some(Status::Ok));
     assert_eq!(rt; sink.bytes().len(), 0);
     Ok(())
@@ -85,7 +90,7 @@ fn no_samples(rt: HostRuntime) -> Result<(), Fail> {
 fn reservoir_fills_at_32_kbit(rt: HostRuntime) -> Result<(), Fail> {
     let bytes = zeros(rt.alloc(), 2, [0x80, 0xBB], 23040)?;
     let words = ["encode", "--rate", "32"];
-    let (status, sink, _, _) = encoded(&rt, &words, bytes.as_slice(), 10000, &[])?;
+    let (status, sink, _, _) = run(&rt, &words, bytes.as_slice(), 10000, &[])?;
     assert_eq!(rt; status, Some(Status::Ok));
     assert_eq!(rt; sink.bytes().len(), 11 * 96);
     // Where a frame's side information begins, and the nine bits of main_data_begin there.
@@ -117,7 +122,7 @@ fn reservoir_fills_at_32_kbit(rt: HostRuntime) -> Result<(), Fail> {
 fn no_reservoir_at_320_kbit(rt: HostRuntime) -> Result<(), Fail> {
     let bytes = zeros(rt.alloc(), 1, [0x44, 0xAC], 1)?;
     let words = ["encode", "--rate", "0320"];
-    let (status, sink, _, _) = encoded(&rt, &words, bytes.as_slice(), 10000, &[])?;
+    let (status, sink, _, _) = run(&rt, &words, bytes.as_slice(), 10000, &[])?;
     assert_eq!(rt; status, Some(Status::Ok));
     assert_eq!(rt; sink.bytes().len(), 1044 + 1045);
     for (at, front) in [
@@ -139,7 +144,7 @@ fn sine_at_32_kbit(rt: HostRuntime) -> Result<(), Fail> {
         bytes.extend_from_slice(&sample.to_le_bytes())?;
     }
     let words = ["encode", "--rate", "32"];
-    let (status, sink, _, _) = encoded(&rt, &words, bytes.as_slice(), 10000, &[])?;
+    let (status, sink, _, _) = run(&rt, &words, bytes.as_slice(), 10000, &[])?;
     assert_eq!(rt; status, Some(Status::Ok));
     assert_eq!(rt; sink.bytes(), stream());
     Ok(())
@@ -152,7 +157,7 @@ fn impulse_at_128_kbit(rt: HostRuntime) -> Result<(), Fail> {
     if let Some(sample) = bytes.as_mut_slice().get_mut(1444..1446) {
         sample.copy_from_slice(&[0xFF, 0x7F]);
     }
-    let (status, sink, _, _) = encoded(&rt, &["encode"], bytes.as_slice(), 10000, &[])?;
+    let (status, sink, _, _) = run(&rt, &["encode"], bytes.as_slice(), 10000, &[])?;
     assert_eq!(rt; status, Some(Status::Ok));
     let mut stream = [0; 1253];
     stream[..4].copy_from_slice(&[0xFF, 0xFB, 0x90, 0xC0]);
@@ -171,10 +176,13 @@ fn ten_seconds_from_a_pipe(rt: HostRuntime) -> Result<(), Fail> {
     for _ in 0..3528 {
         bytes.extend_from_slice(&[0; 500])?;
     }
-    let (status, sink, _, _) = encoded(&rt, &["encode"], bytes.as_slice(), 1000000, &[])?;
+    let (status, sink, _, _) = run(&rt, &["encode"], bytes.as_slice(), 1000000, &[])?;
     assert_eq!(rt; status, Some(Status::Ok));
     assert_eq!(rt; sink.bytes().len(), 160496);
     assert!(rt; sink.bytes().starts_with(&[0xFF, 0xFB, 0x90, 0x00]));
+    let (status, sink, _, _) = run(&rt, &["check"], sink.bytes(), 100, &[])?;
+    assert_eq!(rt; status, Some(Status::Ok));
+    assert_eq!(rt; sink.bytes(), b"frames 384 bits 0\n".as_slice());
     Ok(())
 }
 
@@ -233,7 +241,7 @@ fn refused_heads(rt: HostRuntime) -> Result<(), Fail> {
     ] {
         let mut head = HEAD;
         head[at] = byte;
-        let (answer, sink, notes, _) = encoded(&rt, &["encode"], &head, 10000, &[])?;
+        let (answer, sink, notes, _) = run(&rt, &["encode"], &head, 10000, &[])?;
         assert_eq!(rt; answer, Some(status));
         assert_eq!(rt; sink.bytes().len(), 0);
         assert_eq!(rt; notes.bytes(), text);
@@ -244,7 +252,7 @@ fn refused_heads(rt: HostRuntime) -> Result<(), Fail> {
 #[test]
 fn read_fails_in_the_data(rt: HostRuntime) -> Result<(), Fail> {
     let bytes = zeros(rt.alloc(), 2, [0x44, 0xAC], 2304)?;
-    let (status, sink, notes, _) = encoded(&rt, &["encode"], bytes.as_slice(), 10000, &[2])?;
+    let (status, sink, notes, _) = run(&rt, &["encode"], bytes.as_slice(), 10000, &[2])?;
     assert_eq!(rt; status, Some(Status::ReadFault));
     assert_eq!(rt; sink.bytes().len(), 0);
     assert_eq!(rt; notes.bytes(), b"mp3enc: read fault\n".as_slice());
@@ -254,7 +262,7 @@ fn read_fails_in_the_data(rt: HostRuntime) -> Result<(), Fail> {
 #[test]
 fn sink_fills_up(rt: HostRuntime) -> Result<(), Fail> {
     let bytes = zeros(rt.alloc(), 1, [0x44, 0xAC], 1)?;
-    let (status, sink, notes, _) = encoded(&rt, &["encode"], bytes.as_slice(), 100, &[])?;
+    let (status, sink, notes, _) = run(&rt, &["encode"], bytes.as_slice(), 100, &[])?;
     assert_eq!(rt; status, Some(Status::WriteFault));
     let mut front = [0; 100];
     front[..4].copy_from_slice(&[0xFF, 0xFB, 0x90, 0xC0]);
@@ -263,9 +271,95 @@ fn sink_fills_up(rt: HostRuntime) -> Result<(), Fail> {
     Ok(())
 }
 
+#[test]
+fn check_of_fronts(rt: HostRuntime) -> Result<(), Fail> {
+    // Of so many bytes of the stream of one zero sample, the status, what is written and what notes are told.
+    for (length, status, line, text) in [
+        (
+            0,
+            Status::Ok,
+            b"frames 0 bits 0\n".as_slice(),
+            b"".as_slice(),
+        ),
+        (
+            1,
+            Status::BadStream,
+            b"".as_slice(),
+            b"mp3enc: stream: ShortFrame at 0\n".as_slice(),
+        ),
+        (
+            417,
+            Status::Ok,
+            b"frames 1 bits 0\n".as_slice(),
+            b"".as_slice(),
+        ),
+        (
+            834,
+            Status::BadStream,
+            b"".as_slice(),
+            b"mp3enc: stream: ShortFrame at 417\n".as_slice(),
+        ),
+        (
+            835,
+            Status::Ok,
+            b"frames 2 bits 0\n".as_slice(),
+            b"".as_slice(),
+        ),
+    ] {
+        let stream = zero_sample();
+        let front = stream.get(..length).unwrap_or(&[]);
+        let (answer, sink, notes, _) = run(&rt, &["check"], front, 100, &[])?;
+        assert_eq!(rt; answer, Some(status));
+        assert_eq!(rt; sink.bytes(), line);
+        assert_eq!(rt; notes.bytes(), text);
+    }
+    Ok(())
+}
+
+#[test]
+fn deviations_of_one_zero_sample(rt: HostRuntime) -> Result<(), Fail> {
+    // With this byte of the stream of one zero sample changed to this one, what notes are told.
+    for (at, byte, text) in [
+        (834, 0x01, b"mp3enc: stream: NotZero at 6343\n".as_slice()),
+        (0, 0x00, b"mp3enc: stream: BadHeader at 0\n".as_slice()),
+        (422, 0x80, b"mp3enc: stream: BadBegin at 417\n".as_slice()),
+        (422, 0x40, b"mp3enc: stream: BadSide at 417\n".as_slice()),
+        (7, 0x04, b"mp3enc: stream: BadCode at 0\n".as_slice()),
+    ] {
+        let mut stream = zero_sample();
+        stream[at] = byte;
+        let (answer, sink, notes, _) = run(&rt, &["check"], &stream, 100, &[])?;
+        assert_eq!(rt; answer, Some(Status::BadStream));
+        assert_eq!(rt; sink.bytes().len(), 0);
+        assert_eq!(rt; notes.bytes(), text);
+    }
+    Ok(())
+}
+
+#[test]
+fn check_of_a_sine(rt: HostRuntime) -> Result<(), Fail> {
+    let (status, sink, _, _) = run(&rt, &["check"], stream(), 100, &[])?;
+    assert_eq!(rt; status, Some(Status::Ok));
+    assert_eq!(rt; sink.bytes(), b"frames 4 bits 3616\n".as_slice());
+    Ok(())
+}
+
+#[test]
+fn check_with_faults(rt: HostRuntime) -> Result<(), Fail> {
+    let (status, sink, notes, _) = run(&rt, &["check"], &zero_sample(), 100, &[7])?;
+    assert_eq!(rt; status, Some(Status::ReadFault));
+    assert_eq!(rt; sink.bytes().len(), 0);
+    assert_eq!(rt; notes.bytes(), b"mp3enc: read fault\n".as_slice());
+    let (status, sink, notes, _) = run(&rt, &["check"], &zero_sample(), 8, &[])?;
+    assert_eq!(rt; status, Some(Status::WriteFault));
+    assert_eq!(rt; sink.bytes(), b"frames 2".as_slice());
+    assert_eq!(rt; notes.bytes(), b"mp3enc: write fault\n".as_slice());
+    Ok(())
+}
+
 // Whether words are refused, with nothing read and nothing written.
 fn is_refused(rt: &HostRuntime, words: &[&str]) -> Result<bool, AllocError> {
-    let (status, sink, notes, mut source) = encoded(rt, words, &HEAD, 10000, &[])?;
+    let (status, sink, notes, mut source) = run(rt, words, &HEAD, 10000, &[])?;
     let usage = b"mp3enc: usage: mp3enc encode, check or demo FRAMES SEED\n";
     let mut unread = [0; 50];
     Ok(
@@ -285,5 +379,6 @@ fn words_refused(rt: HostRuntime) -> Result<(), Fail> {
     assert!(rt; is_refused(&rt, &["encode", "--rate", "100"])?);
     assert!(rt; is_refused(&rt, &["encode", "--rate", "+128"])?);
     assert!(rt; is_refused(&rt, &["encode", "--rate", "00000000128"])?);
+    assert!(rt; is_refused(&rt, &["check", "x"])?);
     Ok(())
 }

@@ -1,9 +1,18 @@
 ghost use Rattle.std.specs.Prelude.{◌≡◌, ◌≤◌, map, length};
 ghost use Rattle.std.specs.Char.{is_ascii_digit};
 ghost use Rattle.std.specs.List.{list_all};
-ghost use Rattle.mp3enc.specs.Words.{number_of_digits, is_number as is_number_word, rate_of, rate_of_word, rate_of_words};
+ghost use Rattle.mp3enc.specs.Words.{number_of_digits, is_number as is_number_word, rate_of, rate_of_word, command_of};
 
 use l3_base::Rate;
+
+/// What the words of the command line ask for.
+#[derive(Clone, Copy, Debug, PartialEq, Eq)]
+pub enum Command {
+    /// To encode a WAV file at this rate.
+    Encode(Rate),
+    /// To check a stream.
+    Check,
+}
 
 // The number that at most ten digits write.
 fn value(digits: &[u8]) -> u64
@@ -53,18 +62,21 @@ fn rate_named(word: &str) -> Option<Rate>
     }
 }
 
-/// The rate that the words of the command line ask for, or `None` where they are refused.
+/// The command that the words of the command line ask for, or `None` where they are refused.
 ///
-/// Taken are the one word `encode`, which asks for 128 kbit/s, and the three words `encode --rate R`, where R is one to ten
-/// decimal digits whose number is one of the fourteen rates.
-pub fn rate_asked(words: &[&str]) -> Option<Rate>
-    ensures { result ≡ rate_of_words (map (λ word. word.now) words.now) }
+/// Taken are the one word `encode`, which asks for 128 kbit/s, the three words `encode --rate R`, where R is one to ten
+/// decimal digits whose number is one of the fourteen rates, and the one word `check`.
+pub fn command_asked(words: &[&str]) -> Option<Command>
+    ensures { result ≡ command_of (map (λ word. word.now) words.now) }
 {
     if words.len() == 1 && words[0] == "encode" {
-        return Some(Rate::K128);
+        return Some(Command::Encode(Rate::K128));
+    }
+    if words.len() == 1 && words[0] == "check" {
+        return Some(Command::Check);
     }
     if words.len() == 3 && words[0] == "encode" && words[1] == "--rate" {
-        return rate_named(words[2]);
+        return rate_named(words[2]).map(Command::Encode);
     }
     None
 }

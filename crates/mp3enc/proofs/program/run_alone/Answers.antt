@@ -1,10 +1,9 @@
-use Rattle.std.proofs.Common.{◌≡◌, map, arith, inl, inr, refl}
-use Rattle.std.specs.Prelude.{Option, None, IsSome}
+use Rattle.std.proofs.Common.{rules, ◌≡◌, map, arith, inl, inr, refl}
 use Rattle.l3_io.specs.Causes.{Rose}
 use Rattle.l3_io.proofs.TakenLemmas.{Writes-prefix}
 use Rattle.mp3enc.proofs.StatusLemmas as lemmas
-use Rattle.mp3enc.specs.declared.ending.Ending.TheVariants.{Usage}
-use Rattle.mp3enc.specs.Words.{rate_of_words}
+use Rattle.mp3enc.specs.Status.{text_of}
+use Rattle.mp3enc.specs.Words.{command_of}
 use Rattle.mp3enc.proofs.program.run_alone.Goals as goal
 use Rattle.mp3enc.proofs.program.run_alone.Goals.{After-status}
 use Rattle.mp3enc.proofs.program.run_alone.Given.{Over}
@@ -12,19 +11,12 @@ use Rattle.mp3enc.proofs.program.run_alone.Given.{Over}
 -- what the ending says
 told : (g : Over) (c : After-status g) → lemmas.Told (g.S.Source.left c.args.source.now) (g.S.Source.left c.outcome-ending.new.source) (g.K.Sink.taken c.args.sink.now) (g.K.Sink.taken c.outcome-ending.new.sink)
     (Rose (g.S.Source.faults c.args.source.now) (g.S.Source.faults c.outcome-ending.new.source)) (Rose (g.K.Sink.faults c.args.sink.now) (g.K.Sink.faults c.outcome-ending.new.sink))
-    (c.outcome-ending.new.sink ≡ c.args.sink.now) (rate_of_words (map (λ w. w.now) c.args.words.now)) c.outcome-ending.result
-told g c = lemmas.told _ _ _ _ _ _ _ (rate_of_words (map (λ w. w.now) c.args.words.now)) c.outcome-ending.result c.outcome-ending.ensures.usage
+    (c.outcome-ending.new.sink ≡ c.args.sink.now) (command_of (map (λ w. w.now) c.args.words.now)) c.outcome-ending.result
+told g c = lemmas.told _ _ _ _ _ _ _ (command_of (map (λ w. w.now) c.args.words.now)) c.outcome-ending.result c.outcome-ending.ensures.usage
     (λ is. (c.outcome-ending.ensures.untouched is).1) c.outcome-ending.ensures.others
 
-some_is_not_none : {A : Type 0} (o : Option A) → IsSome o → o ≡ None → ⊥
-some_is_not_none o some none = let bad = rw none at some in cc
-
--- where the words ask for a rate they are not refused
-not_refused : (g : Over) (c : After-status g) → IsSome (rate_of_words (map (λ w. w.now) c.args.words.now)) → c.outcome-ending.result ≡ Usage → ⊥
-not_refused g c some is = some_is_not_none _ some (c.outcome-ending.ensures.usage.0 is)
-
 pub returns-clause-answered : goal.returns-clause-answered
-returns-clause-answered g c = rw c.status.ensures (lemmas.may_come c.outcome-ending.result)
+returns-clause-answered g c = rw c.status.ensures (lemmas.may_come _ _ _ _ _ _ _ _ c.outcome-ending.result (told g c))
 
 pub returns-clause-usage : goal.returns-clause-usage
 returns-clause-usage g c = (
@@ -32,30 +24,25 @@ returns-clause-usage g c = (
   λ none. let is = c.outcome-ending.ensures.usage.1 none in rw (c.status.ensures, is) refl,
 )
 
-pub returns-clause-usage_untouched : goal.returns-clause-usage_untouched
-returns-clause-usage_untouched g c = λ is. c.outcome-ending.ensures.untouched (lemmas.usage_is c.outcome-ending.result (rw c.status.ensures at is))
+pub returns-clause-usage_unread : goal.returns-clause-usage_unread
+returns-clause-usage_unread g c = λ is. (c.outcome-ending.ensures.untouched (lemmas.usage_is c.outcome-ending.result (rw c.status.ensures at is))).0
 
 pub returns-clause-bad_wav_only : goal.returns-clause-bad_wav_only
-returns-clause-bad_wav_only g c = λ is. (lemmas.refused_only _ _ _ _ _ _ _ _ _ c.outcome-ending.result (told g c) (rw c.status.ensures at is) (inl refl)).0
+returns-clause-bad_wav_only g c = λ is. lemmas.refused_only _ _ _ _ _ _ _ _ _ c.outcome-ending.result (told g c) (rw c.status.ensures at is) (inl refl)
 
 pub returns-clause-unsupported_only : goal.returns-clause-unsupported_only
-returns-clause-unsupported_only g c = λ is. (lemmas.refused_only _ _ _ _ _ _ _ _ _ c.outcome-ending.result (told g c) (rw c.status.ensures at is) (inr refl)).0
-
-pub returns-clause-bad_wav_untouched : goal.returns-clause-bad_wav_untouched
-returns-clause-bad_wav_untouched g c = λ is. (lemmas.refused_only _ _ _ _ _ _ _ _ _ c.outcome-ending.result (told g c) (rw c.status.ensures at is) (inl refl)).1
-
-pub returns-clause-unsupported_untouched : goal.returns-clause-unsupported_untouched
-returns-clause-unsupported_untouched g c = λ is. (lemmas.refused_only _ _ _ _ _ _ _ _ _ c.outcome-ending.result (told g c) (rw c.status.ensures at is) (inr refl)).1
+returns-clause-unsupported_only g c = λ is. lemmas.refused_only _ _ _ _ _ _ _ _ _ c.outcome-ending.result (told g c) (rw c.status.ensures at is) (inr refl)
 
 pub returns-clause-refused : goal.returns-clause-refused
-returns-clause-refused g c = λ some steady. rw c.status.ensures (lemmas.refused_there _ _ _ _ _ _ _ _ c.outcome-ending.result (told g c)
-    (not_refused g c some) (λ rose. absurd (omega (arith, steady, rose))))
+returns-clause-refused g c = λ encodes steady. rw c.status.ensures (lemmas.refused_there _ _ _ _ _ _ _ _ c.outcome-ending.result (told g c)
+    encodes (λ rose. absurd (omega (arith, steady, rose))))
 
-pub returns-clause-refused_untouched : goal.returns-clause-refused_untouched
-returns-clause-refused_untouched g c = lemmas.refused_untouched _ _ _ _ _ _ _ _ c.outcome-ending.result (told g c)
+pub returns-clause-bad_stream_only : goal.returns-clause-bad_stream_only
+returns-clause-bad_stream_only g c = λ is. lemmas.bad_stream_only _ _ _ _ _ _ _ _ c.outcome-ending.result (told g c) (rw c.status.ensures at is)
 
-pub returns-clause-memory_untouched : goal.returns-clause-memory_untouched
-returns-clause-memory_untouched g c = λ is. lemmas.memory_untouched _ _ _ _ _ _ _ _ c.outcome-ending.result (told g c) (rw c.status.ensures at is)
+pub returns-clause-deviates : goal.returns-clause-deviates
+returns-clause-deviates g c = λ check steady. rw c.status.ensures (lemmas.deviates_there _ _ _ _ _ _ _ _ c.outcome-ending.result (told g c)
+    check (λ rose. absurd (omega (arith, steady, rose))))
 
 pub returns-clause-written : goal.returns-clause-written
 returns-clause-written g c = lemmas.written _ _ _ _ _ _ _ (λ same list is. rw same is) _ c.outcome-ending.result (told g c)
@@ -66,25 +53,32 @@ returns-clause-whole g c = λ is. lemmas.whole _ _ _ _ _ _ _ _ c.outcome-ending.
 pub returns-clause-rest : goal.returns-clause-rest
 returns-clause-rest g c = λ is. lemmas.rest _ _ _ _ _ _ _ _ c.outcome-ending.result (told g c) (rw c.status.ensures at is)
 
-pub returns-clause-cause_read : goal.returns-clause-cause_read
-returns-clause-cause_read g c = λ is. (lemmas.read_fault _ _ _ _ _ _ _ _ c.outcome-ending.result (told g c) (rw c.status.ensures at is)).0
+pub returns-clause-untouched : goal.returns-clause-untouched
+returns-clause-untouched g c = λ not_ok not_write. lemmas.untouched_else _ _ _ _ _ _ _ _ c.outcome-ending.result (told g c) (rw c.status.ensures at not_ok) (rw c.status.ensures at not_write)
 
-pub returns-clause-read_untouched : goal.returns-clause-read_untouched
-returns-clause-read_untouched g c = λ is. (lemmas.read_fault _ _ _ _ _ _ _ _ c.outcome-ending.result (told g c) (rw c.status.ensures at is)).1
+pub returns-clause-refused_untouched : goal.returns-clause-refused_untouched
+returns-clause-refused_untouched g c = lemmas.refused_untouched _ _ _ _ _ _ _ _ c.outcome-ending.result (told g c)
+
+pub returns-clause-cause_read : goal.returns-clause-cause_read
+returns-clause-cause_read g c = λ is. lemmas.read_fault _ _ _ _ _ _ _ _ c.outcome-ending.result (told g c) (rw c.status.ensures at is)
 
 pub returns-clause-cause_write : goal.returns-clause-cause_write
 returns-clause-cause_write g c = λ is. lemmas.write_fault _ _ _ _ _ _ _ _ c.outcome-ending.result (told g c) (rw c.status.ensures at is)
 
 pub returns-clause-complete : goal.returns-clause-complete
-returns-clause-complete g c = λ some steady steady_sink. rw c.status.ensures (lemmas.complete _ _ _ _ _ _ _ _ c.outcome-ending.result (told g c)
-    (not_refused g c some) (λ rose. absurd (omega (arith, steady, rose))) (λ rose. absurd (omega (arith, steady_sink, rose))))
+returns-clause-complete g c = λ steady steady_sink. rw c.status.ensures (lemmas.complete _ _ _ _ _ _ _ _ c.outcome-ending.result (told g c)
+    (λ rose. absurd (omega (arith, steady, rose))) (λ rose. absurd (omega (arith, steady_sink, rose))))
+
+-- the bytes that notes are given
+text_is : (g : Over) (c : After-status g) → c.as_bytes.result.now ≡ text_of c.outcome-ending.result
+text_is g c = search rules
 
 pub returns-clause-notes : goal.returns-clause-notes
 returns-clause-notes g c = record {
   ending = c.outcome-ending.result;
   status = rw c.status.ensures refl;
   fault = lemmas.named _ _ _ _ _ _ _ _ c.outcome-ending.result (told g c);
-  front = rw c.text.ensures at (Writes-prefix (g.N.Sink.taken c.args.notes.now) (g.N.Sink.taken c.write_all.new.sink) c.write_all.result c.text.result.now c.write_all.ensures.bytes);
-  whole = λ steady. rw c.text.ensures at (lemmas.whole_if_steady (g.N.Sink.taken c.args.notes.now) (g.N.Sink.taken c.write_all.new.sink) (g.N.Sink.faults c.args.notes.now) (g.N.Sink.faults c.write_all.new.sink)
-      c.write_all.result c.text.result.now steady c.write_all.ensures.bytes c.write_all.ensures.cause.failed);
+  front = rw (text_is g c) at (Writes-prefix (g.N.Sink.taken c.args.notes.now) (g.N.Sink.taken c.write_all.new.sink) c.write_all.result c.as_bytes.result.now c.write_all.ensures.bytes);
+  whole = λ steady. rw (text_is g c) at (lemmas.whole_if_steady (g.N.Sink.taken c.args.notes.now) (g.N.Sink.taken c.write_all.new.sink) (g.N.Sink.faults c.args.notes.now) (g.N.Sink.faults c.write_all.new.sink)
+      c.write_all.result c.as_bytes.result.now steady c.write_all.ensures.bytes c.write_all.ensures.cause.failed);
 }
