@@ -8,3 +8,8 @@ pub mod SearchLemmas
 pub mod ViewLemmas
 pub mod DeskViewLemmas
 pub mod RuleLemmas
+pub mod ShutLemmas
+pub mod HistoryLemmas
+pub mod PastLemmas
+pub mod WholeLemmas
+pub mod OrderLemmas

@@ -1,8 +1,12 @@
 -- What the desk and the seats keep between calls, and what each call notes.
 use Rattle.std.specs.Prelude.{◌≡◌, ◌≢◌, ℕ, ◌+◌, ◌<◌, ◌≤◌, ◌%◌, ◌^◌, ◌⊎◌, Bool, true, false, List, [], ◌∷◌, ◌++◌, length, All, Option, Some, None, slice_index_or}
 use Rattle.atomic_table.specs.Table.{Me}
+use Rattle.l3_core.specs.declared.event.Event.TheVariants as event
+use Rattle.l3_core.specs.declared.event.Answer.TheVariants as answer
 use Rattle.l3_core.specs.declared.event.Offer.{Offer}
 use Rattle.l3_core.specs.declared.event.Offer.TheVariants.{Placed, Busy}
+use Rattle.l3_core.specs.declared.event.Claim.{Claim}
+use Rattle.l3_core.specs.declared.event.Claim.TheVariants.{Job, Nothing, Shut}
 use Rattle.l3_core.specs.declared.event.Deposit.{Deposit}
 use Rattle.l3_core.specs.declared.event.Deposit.TheVariants.{Kept, Late, Stray}
 use Rattle.l3_core.specs.declared.event.Take.{Take}
@@ -11,8 +15,10 @@ use Rattle.l3_lanes.specs.declared.seats.LaneBoard.{LaneBoard}
 use Rattle.l3_lanes.specs.declared.seats.LaneDesk.{LaneDesk}
 use Rattle.l3_lanes.specs.declared.seats.LaneSeat.{LaneSeat}
 use Rattle.l3_lanes.specs.declared.view.View.{View}
+use Rattle.l3_lanes.specs.declared.view.Past.{Past}
 use Rattle.l3_lanes.specs.Words.{offered_word, claimed_word, ready_word, withdrawn_word, IsOffered}
 use Rattle.l3_lanes.specs.Views.{Knows, words_at}
+use Rattle.l3_lanes.specs.History.{Extends, Sees, Answers, bare}
 
 -- the desk of so many cells holds no slot, and its list has the granule of each cell that was offered and not taken
 pub record IsDesk {S : Type 0} (cells : ℕ) (me : Me S View) (granules : List (Option ℕ)) (shut : Bool) : Type 0 where
@@ -42,17 +48,25 @@ granule_claimed (Some claim) = Some claim.1
 module _ {T : Type 0} where
   -- the desk was made with this board
   abbrev pub IsDeskOf : LaneBoard T → LaneDesk T → Type 0
-  IsDeskOf board desk = (desk.token.table_id ≡ board.lanes.shared.table_id) × IsDesk board.cells desk.token.me desk.granules.items desk.shut × (length desk.kept.last ≡ board.cells)
+  IsDeskOf board desk = (desk.token.table_id ≡ board.lanes.shared.table_id) × IsDesk board.cells (bare desk.token.me) desk.granules.items desk.shut × (length desk.kept.last ≡ board.cells)
 
   -- the seat was made with this board
   abbrev pub IsSeatOf : LaneBoard T → LaneSeat T → Type 0
-  IsSeatOf board seat = (seat.token.table_id ≡ board.lanes.shared.table_id) × IsSeat board.cells seat.token.me seat.claim
+  IsSeatOf board seat = (seat.token.table_id ≡ board.lanes.shared.table_id) × IsSeat board.cells (bare seat.token.me) seat.claim
 
   abbrev pub desk_view : LaneDesk T → View
-  desk_view desk = desk.token.me.0
+  desk_view desk = desk.token.me.0.view
 
   abbrev pub seat_view : LaneSeat T → View
-  seat_view seat = seat.token.me.0
+  seat_view seat = seat.token.me.0.view
+
+  -- what the desk knows of the history
+  abbrev pub desk_past : LaneDesk T → Past
+  desk_past desk = desk.token.me.0.past
+
+  -- what the seat knows of the history
+  abbrev pub seat_past : LaneSeat T → Past
+  seat_past seat = seat.token.me.0.past
 
   -- the granule that the seat has claimed and not handed in
   abbrev pub claimed : LaneSeat T → Option ℕ
@@ -101,6 +115,39 @@ module _ {T : Type 0} where
   DepositNotes i Kept words = words ≡ ready_word i ∷ []
   DepositNotes i Late words = words ≡ 0 ∷ withdrawn_word i ∷ []
   DepositNotes i (Stray x) words = ⊥
+
+module _ {T : Type 0} (cells : ℕ) where
+  -- the move of an offer of granule i; where it is busy and the desk has not shut the board, so is the board machine
+  abbrev pub OfferMoves : Bool → ℕ → Offer T → Past → Past → Type 0
+  OfferMoves true i (Placed x) v w = ⊥
+  OfferMoves true i (Busy x) v w = w ≡ v
+  OfferMoves false i (Placed x) v w = (spent : ℕ) × Extends cells v (event.Offer i) (answer.Offer (Placed spent)) w
+  OfferMoves false i (Busy x) v w = Answers cells v (event.Offer i) (answer.Offer (Busy i)) w
+
+  -- the move of a claim, after the word for shut was read: it is that of an open board where an item is handed out or
+  -- nothing is found, and that of a board that is shut at Shut
+  abbrev pub ClaimMoves : (T → ℕ) → Claim T → Past → Past → Type 0
+  ClaimMoves number (Job x) v w = (read : Past) × Sees cells false v read × Extends cells read event.Claim (answer.Claim (Job (number x))) w
+  ClaimMoves number Nothing v w = Sees cells false v w
+  ClaimMoves number Shut v w = Sees cells true v w
+
+  -- the move of a deposit of granule i
+  abbrev pub DepositMoves : ℕ → Deposit T → Past → Past → Type 0
+  DepositMoves i Kept v w = Extends cells v (event.Deposit i) (answer.Deposit Kept) w
+  DepositMoves i Late v w = Extends cells v (event.Deposit i) (answer.Deposit Late) w
+  DepositMoves i (Stray x) v w = ⊥
+
+  -- the move of a take of granule i
+  abbrev pub TakeMoves : ℕ → Take T → Past → Past → Type 0
+  TakeMoves i (Got x) v w = Extends cells v (event.Take i 0) (answer.Take (Got i)) w
+  TakeMoves i (Revoked x) v w = Extends cells v (event.Take i 0) (answer.Take (Revoked i)) w
+  TakeMoves i (InWork x) v w = Extends cells v (event.Take i 0) (answer.Take (InWork 0)) w
+  TakeMoves i (NotOffered x) v w = w ≡ v
+
+-- the move of a shut of a board that was shut before, or not
+abbrev pub ShutMoves : ℕ → Bool → Past → Past → Type 0
+ShutMoves cells true v w = w ≡ v
+ShutMoves cells false v w = Extends cells v event.Shut answer.Shut w
 
 -- from the view v to the view w the cell was found to be on offer and left claimed, by one load and one exchange
 abbrev pub WasClaimed : ℕ → ℕ → View → View → Type 0

@@ -1,6 +1,9 @@
 pub mod Words
 pub mod Views
 pub mod Rule
+pub mod History
 pub mod Steps
+pub mod Moves
 pub mod Calls
 pub mod Laws
+pub mod HistoryLaws

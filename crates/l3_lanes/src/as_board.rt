@@ -8,7 +8,7 @@ ghost use Rattle.l3_core.specs.declared.event.Take.TheVariants.{Got, Revoked, In
 ghost use Rattle.l3_board.specs.Desk.{entry_of, last_after_offer, last_after_take, served_after, got_after};
 ghost use Rattle.l3_lanes.specs.Words.{offered_word, claimed_word};
 ghost use Rattle.l3_lanes.specs.Views.{Notes, words_at};
-ghost use Rattle.l3_lanes.specs.Calls.{IsDeskOf, IsSeatOf, OfferNotes, TakeNotes, DepositNotes, WasClaimed, WasLost, ReadsShut, claimed, desk_view, seat_view, granule_at};
+ghost use Rattle.l3_lanes.specs.Calls.{IsDeskOf, IsSeatOf, OfferNotes, TakeNotes, DepositNotes, WasClaimed, WasLost, ReadsShut, claimed, desk_view, seat_view, granule_at, OfferMoves, ClaimMoves, DepositMoves, TakeMoves, ShutMoves, desk_past, seat_past};
 
 use crate::seats::{LaneBoard, LaneDesk, LaneSeat};
 use l3_base::GranuleNo;
@@ -54,6 +54,7 @@ impl<T: Numbered + Send> Board for LaneBoard<T> {
         ensures served { desk.new.kept.served ≡ desk.old.kept.served }
         ensures got { desk.new.kept.got ≡ desk.old.kept.got }
         ensures notes { (words : List ℕ) × OfferNotes desk.old.shut (T.number_of item) result words × Notes (T.number_of item % self.now.cells) words (desk_view desk.old) (desk_view desk.new) }
+        ensures moved { OfferMoves self.now.cells desk.old.shut (T.number_of item) result (desk_past desk.old) (desk_past desk.new) }
     {
         self.offer(desk, item)
     }
@@ -68,6 +69,7 @@ impl<T: Numbered + Send> Board for LaneBoard<T> {
         ensures read { (n : ℕ) × ReadsShut self.now.cells [] n (seat_view seat.old) (seat_view seat.new) × ((result ≡ Shut) ↔ (n ≡ 1)) }
         ensures claimed { (x : T) → result ≡ Job x → WasClaimed (T.number_of x % self.now.cells) (T.number_of x) (seat_view seat.old) (seat_view seat.new) }
         ensures lost { result ≡ Nothing → (c : ℕ) → c < self.now.cells → WasLost c (seat_view seat.old) (seat_view seat.new) }
+        ensures moved { ClaimMoves self.now.cells T.number_of result (seat_past seat.old) (seat_past seat.new) }
     {
         self.claim(seat)
     }
@@ -81,6 +83,7 @@ impl<T: Numbered + Send> Board for LaneBoard<T> {
         ensures shut { result ≡ Shut → claimed seat.new ≡ None }
         ensures read { (n : ℕ) × (earlier : List ℕ) × ReadsShut self.now.cells earlier n (seat_view seat.old) (seat_view seat.new) × ((result ≡ Shut) ↔ (n ≡ 1)) }
         ensures claimed { (x : T) → result ≡ Job x → (before : List ℕ) × (words_at (seat_view seat.new) (T.number_of x % self.now.cells) ≡ claimed_word (T.number_of x) ∷ offered_word (T.number_of x) ∷ before) }
+        ensures moved { ClaimMoves self.now.cells T.number_of result (seat_past seat.old) (seat_past seat.new) }
     {
         self.claim_wait(rt, seat)
     }
@@ -92,6 +95,7 @@ impl<T: Numbered + Send> Board for LaneBoard<T> {
         ensures free { claimed seat.new ≡ None }
         ensures stray { (x : T) → result ≡ Stray x → x ≡ item }
         ensures notes { (words : List ℕ) × DepositNotes (T.number_of item) result words × Notes (T.number_of item % self.now.cells) words (seat_view seat.old) (seat_view seat.new) }
+        ensures moved { DepositMoves self.now.cells (T.number_of item) result (seat_past seat.old) (seat_past seat.new) }
     {
         self.deposit(seat, item)
     }
@@ -107,6 +111,7 @@ impl<T: Numbered + Send> Board for LaneBoard<T> {
         ensures served { desk.new.kept.served ≡ served_after desk.old.kept.served number (entry_of self.now.cells desk.old.kept.last number) }
         ensures got { desk.new.kept.got ≡ got_after T.work_of desk.old.kept.got desk.old.kept.served number (entry_of self.now.cells desk.old.kept.last number) result }
         ensures notes { let cell = number % self.now.cells in (words : List ℕ) × TakeNotes (granule_at desk.old cell) number result words × Notes cell words (desk_view desk.old) (desk_view desk.new) }
+        ensures moved { TakeMoves self.now.cells number result (desk_past desk.old) (desk_past desk.new) }
     {
         self.take(desk, number, spare)
     }
@@ -118,6 +123,7 @@ impl<T: Numbered + Send> Board for LaneBoard<T> {
         ensures served { desk.new.kept.served ≡ desk.old.kept.served }
         ensures got { desk.new.kept.got ≡ desk.old.kept.got }
         ensures shut { desk.new.shut ≡ true }
+        ensures moved { ShutMoves self.now.cells desk.old.shut (desk_past desk.old) (desk_past desk.new) }
     {
         self.shut(desk);
     }

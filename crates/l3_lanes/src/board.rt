@@ -6,7 +6,7 @@ ghost use Rattle.l3_core.specs.declared.event.Take.TheVariants.{Got, Revoked, In
 ghost use Rattle.l3_board.specs.Desk.{entry_of, last_after_offer, last_after_take, served_after, got_after};
 ghost use Rattle.l3_lanes.specs.Words.{offered_word, claimed_word};
 ghost use Rattle.l3_lanes.specs.Views.{Notes, words_at};
-ghost use Rattle.l3_lanes.specs.Calls.{IsDeskOf, IsSeatOf, OfferNotes, TakeNotes, DepositNotes, WasClaimed, WasLost, IsTried, ReadsShut, claimed, desk_view, seat_view, granule_at, granule_offered, granule_taken};
+ghost use Rattle.l3_lanes.specs.Calls.{IsDeskOf, IsSeatOf, OfferNotes, TakeNotes, DepositNotes, WasClaimed, WasLost, IsTried, ReadsShut, claimed, desk_view, seat_view, granule_at, granule_offered, granule_taken, OfferMoves, ClaimMoves, DepositMoves, TakeMoves, ShutMoves, desk_past, seat_past};
 
 use crate::desk_steps::{ring, shut};
 use crate::seats::{LaneBoard, LaneDesk, LaneSeat};
@@ -34,6 +34,7 @@ impl<T: Numbered> LaneBoard<T> {
         ensures made { IsDeskOf self.now desk.new }
         ensures busy { (x : T) → result ≡ Busy x → x ≡ item }
         ensures notes { (words : List ℕ) × OfferNotes desk.old.shut (T.number_of item) result words × Notes (T.number_of item % self.now.cells) words (desk_view desk.old) (desk_view desk.new) }
+        ensures moved { OfferMoves self.now.cells desk.old.shut (T.number_of item) result (desk_past desk.old) (desk_past desk.new) }
         ensures granules { let cell = T.number_of item % self.now.cells in desk.new.granules.items ≡ slice_set desk.old.granules.items cell (granule_offered (T.number_of item) (granule_at desk.old cell) result) }
         ensures last { desk.new.kept.last ≡ last_after_offer self.now.cells desk.old.kept.last (T.number_of item) result }
         ensures served { desk.new.kept.served ≡ desk.old.kept.served }
@@ -63,6 +64,7 @@ impl<T: Numbered> LaneBoard<T> {
         ensures tried { (c : ℕ) → c < self.now.cells → IsTried c (seat_view seat.old) (seat_view seat.new) }
         ensures claimed { (x : T) → result ≡ Job x → WasClaimed (T.number_of x % self.now.cells) (T.number_of x) (seat_view seat.old) (seat_view seat.new) }
         ensures lost { result ≡ Nothing → (c : ℕ) → c < self.now.cells → WasLost c (seat_view seat.old) (seat_view seat.new) }
+        ensures moved { ClaimMoves self.now.cells T.number_of result (seat_past seat.old) (seat_past seat.new) }
     {
         let row = &self.lanes.shared;
         if load(row, &mut seat.token, usize::from(self.cells)) == 1 {
@@ -85,6 +87,7 @@ impl<T: Numbered> LaneBoard<T> {
         ensures shut { result ≡ Shut → claimed seat.new ≡ None }
         ensures read { (n : ℕ) × (earlier : List ℕ) × ReadsShut self.now.cells earlier n (seat_view seat.old) (seat_view seat.new) × ((result ≡ Shut) ↔ (n ≡ 1)) }
         ensures claimed { (x : T) → result ≡ Job x → (before : List ℕ) × (words_at (seat_view seat.new) (T.number_of x % self.now.cells) ≡ claimed_word (T.number_of x) ∷ offered_word (T.number_of x) ∷ before) }
+        ensures moved { ClaimMoves self.now.cells T.number_of result (seat_past seat.old) (seat_past seat.new) }
     {
         let bell = usize::from(self.cells) + 1;
         for _ in rt.forever() {
@@ -110,6 +113,7 @@ impl<T: Numbered> LaneBoard<T> {
         ensures free { claimed seat.new ≡ None }
         ensures never_stray { (x : T) → result ≢ Stray x }
         ensures notes { (words : List ℕ) × DepositNotes (T.number_of item) result words × Notes (T.number_of item % self.now.cells) words (seat_view seat.old) (seat_view seat.new) }
+        ensures moved { DepositMoves self.now.cells (T.number_of item) result (seat_past seat.old) (seat_past seat.new) }
     {
         let Some((cell, number)) = seat.claim else {
             unreachable!()
@@ -132,6 +136,7 @@ impl<T: Numbered> LaneBoard<T> {
         ensures in_work { (x : T) → result ≡ InWork x → x ≡ spare }
         ensures not_offered { (x : T) → result ≡ NotOffered x → x ≡ spare }
         ensures notes { let cell = number % self.now.cells in (words : List ℕ) × TakeNotes (granule_at desk.old cell) number result words × Notes cell words (desk_view desk.old) (desk_view desk.new) }
+        ensures moved { TakeMoves self.now.cells number result (desk_past desk.old) (desk_past desk.new) }
         ensures granules { let cell = number % self.now.cells in desk.new.granules.items ≡ slice_set desk.old.granules.items cell (granule_taken (granule_at desk.old cell) result) }
         ensures last { desk.new.kept.last ≡ last_after_take self.now.cells desk.old.kept.last number result }
         ensures served { desk.new.kept.served ≡ served_after desk.old.kept.served number (entry_of self.now.cells desk.old.kept.last number) }
@@ -152,6 +157,7 @@ impl<T: Numbered> LaneBoard<T> {
         ensures granules { desk.new.granules ≡ desk.old.granules }
         ensures kept { desk.new.kept ≡ desk.old.kept }
         ensures notes { Notes self.now.cells (if desk.old.shut then [] else 1 ∷ []) (desk_view desk.old) (desk_view desk.new) }
+        ensures moved { ShutMoves self.now.cells desk.old.shut (desk_past desk.old) (desk_past desk.new) }
     {
         if desk.shut {
             return;

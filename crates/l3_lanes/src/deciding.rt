@@ -3,7 +3,7 @@ ghost use Rattle.std.specs.Prelude.{◌≡◌, ℕ, List, ◌%◌, ◌<◌, ◌�
 ghost use Rattle.l3_core.specs.declared.event.Offer.TheVariants.{Busy};
 ghost use Rattle.l3_core.specs.declared.event.Take.TheVariants.{Got, Revoked, InWork, NotOffered};
 ghost use Rattle.l3_lanes.specs.Views.{Notes};
-ghost use Rattle.l3_lanes.specs.Calls.{IsDeskOf, OfferNotes, TakeNotes, desk_view, granule_at, granule_offered, granule_taken};
+ghost use Rattle.l3_lanes.specs.Calls.{IsDeskOf, OfferNotes, TakeNotes, OfferMoves, TakeMoves, desk_view, desk_past, granule_at, granule_offered, granule_taken};
 
 use crate::desk_calls::{fetch, place};
 use crate::seats::{LaneBoard, LaneDesk};
@@ -17,6 +17,7 @@ impl<T: Numbered> LaneBoard<T> {
         ensures made { IsDeskOf self.now desk.new }
         ensures busy { (x : T) → result ≡ Busy x → x ≡ item }
         ensures notes { (words : List ℕ) × OfferNotes desk.old.shut number result words × Notes (number % self.now.cells) words (desk_view desk.old) (desk_view desk.new) }
+        ensures moved { OfferMoves self.now.cells desk.old.shut number result (desk_past desk.old) (desk_past desk.new) }
         ensures granules { let cell = number % self.now.cells in desk.new.granules.items ≡ slice_set desk.old.granules.items cell (granule_offered number (granule_at desk.old cell) result) }
         ensures kept { desk.new.kept ≡ desk.old.kept }
         ensures shut { desk.new.shut ≡ desk.old.shut }
@@ -46,6 +47,7 @@ impl<T: Numbered> LaneBoard<T> {
         ensures in_work { (x : T) → result ≡ InWork x → x ≡ spare }
         ensures not_offered { (x : T) → result ≡ NotOffered x → x ≡ spare }
         ensures notes { let cell = number % self.now.cells in (words : List ℕ) × TakeNotes (granule_at desk.old cell) number result words × Notes cell words (desk_view desk.old) (desk_view desk.new) }
+        ensures moved { TakeMoves self.now.cells number result (desk_past desk.old) (desk_past desk.new) }
         ensures granules { let cell = number % self.now.cells in desk.new.granules.items ≡ slice_set desk.old.granules.items cell (granule_taken (granule_at desk.old cell) result) }
         ensures kept { desk.new.kept ≡ desk.old.kept }
         ensures shut { desk.new.shut ≡ desk.old.shut }

@@ -1,7 +1,9 @@
 // How a board begins.
 ghost use Rattle.std.specs.Prelude.{◌≡◌, ◌+◌, ◌<◌, ◌≤◌, None, Some, false, length, vec_len, IfOk, All, map, replicate};
 ghost use Rattle.l3_board.specs.Desk.{fresh_desk};
-ghost use Rattle.l3_lanes.specs.Calls.{IsDeskOf, IsSeat, IsSeatOf, claimed};
+ghost use Rattle.l3_lanes.specs.History.{bare};
+ghost use Rattle.l3_lanes.specs.Moves.{no_past};
+ghost use Rattle.l3_lanes.specs.Calls.{IsDeskOf, IsSeat, IsSeatOf, claimed, desk_past, seat_past};
 
 use crate::plays::{Hire, Lanes, Row, Token};
 use crate::seats::{LaneBoard, LaneDesk, LaneSeat};
@@ -24,6 +26,8 @@ impl<T: Numbered> LaneBoard<T> {
         ensures opening { IfOk result (λ made. (made.1.granules.items ≡ replicate (vec_len blanks) None) × (made.1.shut ≡ false)) }
         ensures kept { IfOk result (λ made. made.1.kept ≡ fresh_desk (vec_len blanks)) }
         ensures seats { IfOk result (λ made. vec_len made.2 ≡ workers) }
+        ensures desk_past { IfOk result (λ made. desk_past made.1 ≡ no_past) }
+        ensures seat_pasts { IfOk result (λ made. All (λ seat. seat_past seat ≡ no_past) made.2.items) }
         ensures made { IfOk result (λ made. All (λ seat. IsSeatOf made.0 seat × (claimed seat ≡ None)) made.2.items) }
     {
         let cells = blanks.len() as u8;
@@ -73,10 +77,11 @@ fn hired<T: Numbered>(
 ) -> Result<Vec<LaneSeat<T>>, AllocError>
     requires table { token.old.table_id ≡ row.now.table_id }
     requires words { row.now.table_id.words ≡ row.now.table_id.slots + 2 }
-    requires places { length token.old.me.0.notes ≡ row.now.table_id.slots + 1 }
+    requires places { length token.old.me.0.view.notes ≡ row.now.table_id.slots + 1 }
     ensures same { (token.new.table_id ≡ token.old.table_id) × (token.new.id ≡ token.old.id) × (token.new.me ≡ token.old.me) }
     ensures seats { IfOk result (λ seats. vec_len seats ≡ workers) }
-    ensures made { IfOk result (λ seats. All (λ seat. (seat.token.table_id ≡ row.now.table_id) × IsSeat row.now.table_id.slots seat.token.me seat.claim × (seat.claim ≡ None)) seats.items) }
+    ensures pasts { IfOk result (λ seats. All (λ seat. seat_past seat ≡ no_past) seats.items) }
+    ensures made { IfOk result (λ seats. All (λ seat. (seat.token.table_id ≡ row.now.table_id) × IsSeat row.now.table_id.slots (bare seat.token.me) seat.claim × (seat.claim ≡ None)) seats.items) }
 {
     let mut seats = Vec::new(alloc);
     for _ in 0..workers {

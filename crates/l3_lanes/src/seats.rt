@@ -9,6 +9,8 @@ use l3_core::Numbered;
 ///
 /// Granule i stands in cell `i mod L` alone, L being the number of cells. A cell has one word, which tells its state, and
 /// one slot for an item; an empty cell keeps a spent item. No call but `claim_wait` waits, and only `new` takes memory.
+///
+/// The calls that change the board make one history of moves, which is a run of the board machine of `l3_core`.
 #[derive(Drop)]
 pub struct LaneBoard<T: Numbered> {
     pub(crate) lanes: Lanes<T>,

@@ -1,4 +1,5 @@
 // What a seat knows of the board. These types serve the clauses alone: no value of them is made when the program runs.
+use l3_core::{Answer, Event};
 use std::collections::LinkedList;
 
 /// What the desk knows of a cell.
@@ -32,4 +33,27 @@ pub struct View {
     /// The words noted at each cell and at the word for shut, the newest first. A place's count of readings is how
     /// many there are.
     pub notes: LinkedList<LinkedList<u64>>,
+}
+
+/// A move on the board: a call that changed it, with its answer. An item stands as the number of its granule, and a
+/// spent one as any number.
+pub struct Move {
+    /// The number of the seat that made it.
+    pub seat: u64,
+    pub event: Event<u64>,
+    pub answer: Answer<u64>,
+}
+
+/// What a seat knows of the moves on the board.
+pub struct Past {
+    /// The moves of all seats, in their order, up to the last of its own.
+    pub seen: LinkedList<Move>,
+    /// Its own moves, in their order.
+    pub mine: LinkedList<Move>,
+}
+
+/// What a seat knows: its view, and the moves on the board.
+pub struct Knowledge {
+    pub view: View,
+    pub past: Past,
 }

@@ -1,6 +1,13 @@
-use Rattle.std.proofs.Common.{arith}
-use Rattle.l3_lanes.proofs.ClaimLemmas.{claims}
+use Rattle.std.proofs.Common.{◌≡◌, ◌+◌, ◌*◌, arith, eqb}
+use Rattle.l3_core.specs.declared.event.Event.TheVariants as event
+use Rattle.l3_core.specs.declared.event.Answer.TheVariants as answer
+use Rattle.l3_core.specs.declared.event.Claim.TheVariants.{Job}
+use Rattle.l3_lanes.specs.History.{Extends}
+use Rattle.l3_lanes.proofs.WholeLemmas.{claims_whole, of_first}
 use Rattle.l3_lanes.proofs.worker_steps.claim.Goals as goal
 
 pub compare_exchange-requires : goal.compare_exchange-requires
-compare_exchange-requires g c = (c.requires.fits.0, omega arith, claims g.T.Numbered.number_of c.args.row.now.table_id.slots c.args.seat.now.id c.args.seat.now.me c.args.cell c.args.number c.requires.worker.0 c.requires.worker.1 c.requires.worker.2 c.requires.cell)
+compare_exchange-requires g c = (c.requires.fits.0, omega arith, claims_whole g.T.Numbered.number_of c.args.row.now.table_id.slots c.args.seat.now.id c.args.seat.now.me c.args.cell c.args.number c.requires.cell c.requires.seen_open c.requires.worker.0 c.requires.worker.1 c.requires.worker.2)
+
+pub returns-clause-moved : goal.returns-clause-moved
+returns-clause-moved g c = of_first c.args.number (eqb c.compare_exchange.result (8 * c.args.number + 1)) (λ i. Extends c.args.row.now.table_id.slots c.args.seat.now.me.0.past event.Claim (answer.Claim (Job i)) c.compare_exchange.new.seat.me.0.past) (c.compare_exchange.new.seat.me.0.past ≡ c.args.seat.now.me.0.past) c.compare_exchange.ensures.2.1

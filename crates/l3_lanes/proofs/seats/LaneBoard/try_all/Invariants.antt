@@ -7,6 +7,7 @@ abbrev pub invariant-loop-cell : goal.invariant-loop-cell
 invariant-loop-cell g l = record {
   seat : IsSeatOf l.self l.seat;
   free : l.seat.claim ≡ None;
-  lost : (c : ℕ) → c < l.cell → WasLost c l.fn.seat.token.me.0 l.seat.token.me.0;
-  others : (k : ℕ) → l.cell ≤ k → words_at l.seat.token.me.0 k ≡ words_at l.fn.seat.token.me.0 k;
+  lost : (c : ℕ) → c < l.cell → WasLost c l.fn.seat.token.me.0.view l.seat.token.me.0.view;
+  past : l.seat.token.me.0.past ≡ l.fn.seat.token.me.0.past;
+  others : (k : ℕ) → l.cell ≤ k → words_at l.seat.token.me.0.view k ≡ words_at l.fn.seat.token.me.0.view k;
 }
