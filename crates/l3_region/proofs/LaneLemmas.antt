@@ -3,7 +3,7 @@ use Rattle.std.proofs.Common.{◌≡◌, ℕ, zero, suc, ◌+◌, ◌-◌, ◌*�
 use Rattle.std.specs.Prelude.{ℤ, min, max}
 use Rattle.std.proofs.lemmas.Bool.{cases_lt, le-leb, lt-ltb, le-ltb}
 use Rattle.l3_tables.specs.Lists.{entry}
-use Rattle.l3_region.specs.Lanes.{AreFloors, AreSums, CostsGrow, LinbitsGrow, lane_class, mask_at, least_below, class_from, lane_cost, lane_sum, range_cost, row_at, place_of}
+use Rattle.l3_region.specs.Lanes.{AreFloors, AreSums, CostsGrow, IsFirstLane, LinbitsGrow, lane_class, mask_at, least_below, class_from, lane_cost, lane_sum, range_cost, row_at, place_of}
 use Rattle.l3_region.proofs.Tables.{mask_is, mask_linbits, mask_none, row_rises, row_small, row_zero}
 
 -- ---- the least
@@ -151,21 +151,62 @@ least_of_short low high class small grow rising =
     sym (least_below-front f 16 8 (λ j from lt.
     omega (arith, least_below-lower f 16 12 (omega arith), mask_none class 12 small (omega arith) (omega arith), mask_none class j small (omega arith) (omega arith), grow 12 j (omega arith) (omega arith) (omega arith), rising 12 (omega arith), rising j (omega arith))))
 
--- the lane of the class is the cheapest one where only tables with linbits hold the values
-pub least_of_long : (low high : List ℕ) (class : ℕ) → 6 ≤ class → class < 14 → LinbitsGrow low high → ((k : ℕ) → k < 24 → get_or low k 0 ≤ get_or high k 0) → ((k : ℕ) → k < 24 → get_or high k 0 ≤ 9216) →
-    get_or high (class + 6) 0 - get_or low (class + 6) 0 ≡ least_below (lane_cost low high class) 24
+-- the lane of the class is the first one of least cost where only tables with linbits hold the values
+pub first_of_long : (low high : List ℕ) (class : ℕ) → 6 ≤ class → class < 14 → LinbitsGrow low high → ((k : ℕ) → k < 24 → get_or low k 0 ≤ get_or high k 0) → ((k : ℕ) → k < 24 → get_or high k 0 ≤ 9216) →
+    (mask_at class (class + 6) ≡ 0) × IsFirstLane (lane_cost low high class) 24 (class + 6)
 unfolding LinbitsGrow
-least_of_long low high class from to grow rising small =
-    let f = lane_cost low high class in
+first_of_long low high class from to grow rising small =
     let lane = class + 6 in
     let here : mask_at class lane ≡ 0 = mask_linbits class lane from to (omega arith) ∙ ap (λ t. cond {A = ℕ} t 16384 0) (le-ltb lane lane (omega arith)) in
-    let least = least_below-is f 24 lane (omega arith) (omega (arith, here, small lane (omega arith))) (λ j lt. elim (cases_lt j lane) [
-      | inl before ↦
-          (let over : mask_at class j ≡ 16384 = mask_linbits class j from to lt ∙ ap (λ t. cond {A = ℕ} t 16384 0) (lt-ltb j lane before) in
-          omega (arith, here, over, small lane (omega arith)))
-      | inr after ↦ omega (arith, here, grow lane j (omega arith) after lt, rising lane (omega arith), rising j lt)
-    ]) in
-    omega (arith, here, least)
+    let over : (j : ℕ) → j < lane → mask_at class j ≡ 16384 = λ j before. mask_linbits class j from to (omega arith) ∙ ap (λ t. cond {A = ℕ} t 16384 0) (lt-ltb j lane before) in (
+      here,
+      record {
+        below = omega arith;
+        least = λ j lt. elim (cases_lt j lane) [
+          | inl before ↦ omega (arith, here, over j before, small lane (omega arith))
+          | inr after ↦ omega (arith, here, grow lane j (omega arith) after lt, rising lane (omega arith), rising j lt)
+        ];
+        first = λ j before. omega (arith, here, over j before, small lane (omega arith));
+      },
+    )
+
+-- it is the cheapest one
+pub least_of_long : (low high : List ℕ) (class : ℕ) → 6 ≤ class → class < 14 → LinbitsGrow low high → ((k : ℕ) → k < 24 → get_or low k 0 ≤ get_or high k 0) → ((k : ℕ) → k < 24 → get_or high k 0 ≤ 9216) →
+    get_or high (class + 6) 0 - get_or low (class + 6) 0 ≡ least_below (lane_cost low high class) 24
+least_of_long low high class from to grow rising small =
+    let first = first_of_long low high class from to grow rising small in
+    let lane = class + 6 in
+    let least = least_below-is (lane_cost low high class) 24 lane first.1.below (omega (arith, first.0, small lane (omega arith))) first.1.least in
+    omega (arith, first.0, least)
+
+-- thirteen lanes are enough for the first one where a table without linbits holds the values
+pub first_of_short : (low high : List ℕ) (class r : ℕ) → class < 6 → LinbitsGrow low high → ((k : ℕ) → k < 24 → get_or low k 0 ≤ get_or high k 0) →
+    IsFirstLane (lane_cost low high class) 13 r → IsFirstLane (lane_cost low high class) 24 r
+unfolding LinbitsGrow
+first_of_short low high class r small grow rising is = record {
+  below = omega (arith, is.below);
+  least = λ j lt. elim (cases_lt j 13) [
+    | inl front ↦ is.least j front
+    | inr back ↦
+        omega (
+          arith,
+          is.least 12 (omega arith),
+          mask_none class 12 small (omega arith) (omega arith),
+          mask_none class j small (omega arith) lt,
+          grow 12 j (omega arith) (omega arith) lt,
+          rising 12 (omega arith),
+          rising j lt,
+        )
+  ];
+  first = is.first;
+}
+
+-- zeros cost nothing in lane 0
+pub first_of_zeros : (low high : List ℕ) → get_or high 0 0 ≡ 0 → IsFirstLane (lane_cost low high 0) 24 0
+first_of_zeros low high none =
+    let low_class : leb 0 (lane_class 0) ≡ true = le-leb 0 (lane_class 0) (omega arith) in
+    let mask : mask_at 0 0 ≡ 0 = mask_is 0 0 (omega arith) (omega arith) ∙ ap (λ t. cond {A = ℕ} t 0 16384) low_class in
+    record { below = omega arith; least = λ j lt. omega (arith, mask, none); first = λ j lt. absurd (omega (arith, lt)) }
 
 -- ---- floors
 

@@ -126,3 +126,53 @@ class_is value class k lt lk above within =
           (let held : value ≤ bound_at (lane_class k) = omega (arith, bound_rises class (lane_class k) more (lane_class-lt k lk)) in
           rw own (le-leb value (bound_at (lane_class k)) held ∙ sym (le-leb class (lane_class k) more)))
     ]
+
+-- ---- counting bounds
+
+-- so many of the first bounds are less than a value, and they come first
+pub record AreLess (value class k : ℕ) : Type 0 where
+  pub within : class ≤ k
+  pub less : (j : ℕ) → j < class → bound_at j < value
+  pub others : (j : ℕ) → class ≤ j → j < k → value ≤ bound_at j
+
+-- one bound more
+pub AreLess-more : (value class k n : ℕ) → k < 14 → AreLess value class k → (bound_at k < value → n ≡ 1) → (value ≤ bound_at k → n ≡ 0) → AreLess value (class + n) (k + 1)
+AreLess-more value class k n lt is one none = elim (cases_lt (bound_at k) value) [
+  | inl over ↦
+      (let more = one over in
+      let all : class ≡ k = elim (cases_lt class k) [
+        | inl early ↦ absurd (omega (arith, over, is.others class (omega arith) early, bound_rises class k is.within lt))
+        | inr same ↦ omega (arith, is.within, same)
+      ] in
+      record {
+        within = omega (arith, more, all);
+        less = λ j before. elim (cases_lt j class) [
+          | inl front ↦ is.less j front
+          | inr here ↦ (let e : bound_at j ≡ bound_at k = ap bound_at (omega (arith, before, here, all, more)) in omega (arith, e, over))
+        ];
+        others = λ j from to. absurd (omega (arith, from, to, all, more));
+      })
+  | inr held ↦
+      (let same = none held in
+      record {
+        within = omega (arith, same, is.within);
+        less = λ j before. is.less j (omega (arith, before, same));
+        others = λ j from to. elim (cases_lt j k) [
+          | inl front ↦ is.others j (omega (arith, from, same)) front
+          | inr here ↦ (let e : bound_at j ≡ bound_at k = ap bound_at (omega (arith, here, to)) in omega (arith, e, held))
+        ];
+      })
+]
+
+-- the number of bounds below a value is its class; the last one is never less
+pub class_by_count : (value class k : ℕ) → value ≤ 8191 → AreLess value class 13 → k < 24 → leb value (greatest_of (lane_table k)) ≡ leb class (lane_class k)
+class_by_count value class k small is lt =
+    let within : value ≤ bound_at class = elim (cases_lt class 13) [
+      | inl early ↦ is.others class (omega arith) early
+      | inr last ↦ (let e : bound_at class ≡ bound_at 13 = ap bound_at (omega (arith, is.within, last)) in omega (arith, e, bound_last, small))
+    ] in
+    let above : (class ≡ 0) ⊎ (bound_at (class - 1) < value) = elim (cases_lt 0 class) [
+      | inl some ↦ inr (is.less (class - 1) (omega (arith, some)))
+      | inr none ↦ inl (omega (arith, none))
+    ] in
+    class_is value class k (omega (arith, is.within)) lt above within

@@ -26,17 +26,19 @@ fn least_of_sixteen(low: &Row, high: &Row, class: u8) -> u16
     least
 }
 
-/// The first lane of least cost between two rows of sums.
-fn first_lane(low: &Row, high: &Row, class: u8) -> usize
-    requires class { class < 14 }
+/// The first lane of least cost between two rows of sums, where a table without linbits holds the values.
+///
+/// Of the lanes with linbits the first one is enough.
+fn first_of_thirteen(low: &Row, high: &Row, class: u8) -> usize
+    requires class { class < 6 }
     requires rising { (k : ℕ) → k < 24 → slice_index low.now k ≤ slice_index high.now k }
     requires small { (k : ℕ) → k < 24 → slice_index high.now k ≤ 9216 }
-    ensures { IsFirstLane (lane_cost low.now high.now class) 24 result }
+    ensures { IsFirstLane (lane_cost low.now high.now class) 13 result }
 {
     let mask = mask(class);
     let mut lane = 0usize;
     let mut least = high[0] - low[0] + mask[0];
-    for k in 1..24 {
+    for k in 1..13 {
         let bits = high[k] - low[k] + mask[k];
         if bits < least {
             lane = k;
@@ -44,6 +46,26 @@ fn first_lane(low: &Row, high: &Row, class: u8) -> usize
         }
     }
     lane
+}
+
+/// The first lane of least cost between two rows of sums.
+///
+/// Where only tables with linbits hold the values, it is the first of these; zeros cost nothing in lane 0.
+fn first_lane(low: &Row, high: &Row, class: u8) -> usize
+    requires class { class < 14 }
+    requires rising { (k : ℕ) → k < 24 → slice_index low.now k ≤ slice_index high.now k }
+    requires small { (k : ℕ) → k < 24 → slice_index high.now k ≤ 9216 }
+    requires linbits { LinbitsGrow low.now high.now }
+    requires zero_bits { slice_index high.now 0 ≡ 0 }
+    ensures { IsFirstLane (lane_cost low.now high.now class) 24 result }
+{
+    if class >= 6 {
+        usize::from(class) + 6
+    } else if class == 0 {
+        0
+    } else {
+        first_of_thirteen(low, high, class)
+    }
 }
 
 /// What some bands cost in the cheapest lane, for their greatest class; zeros cost nothing.

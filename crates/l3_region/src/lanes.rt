@@ -68,14 +68,16 @@ pub(crate) fn mask(class: u8) -> &'static [u16; 24]
 }
 
 /// The class of a value: a lane holds the value where it is of this class or a greater one.
+///
+/// It is the number of classes whose greatest value is less.
 pub(crate) fn class_of(value: u16) -> u8
     requires { value ≤ 8191 }
     ensures value { (k : ℕ) → k < 24 → nat_le value (greatest_of (lane_table k)) ≡ nat_le result (lane_class k) }
     ensures small { result < 14 }
 {
     let mut class = 0u8;
-    while bound(usize::from(class)) < value {
-        class += 1;
+    for k in 0..13 {
+        class += u8::from(bound(k) < value);
     }
     class
 }

@@ -1,6 +1,6 @@
 use Rattle.std.proofs.Common.{◌≡◌, ◌≤◌}
 use Rattle.l3_region.specs.Lanes.{IsFirstLane, lane_cost}
-use Rattle.l3_region.proofs.choice.first_lane.Given as goal
+use Rattle.l3_region.proofs.choice.first_of_thirteen.Given as goal
 
 abbrev pub invariant-loop-k : goal.invariant-loop-k
 invariant-loop-k l = record {
