@@ -1,9 +1,9 @@
 -- Samples channel by channel, block by block.
-use Rattle.std.proofs.Common.{◌≡◌, ◌∙◌, sym, ap, refl, ℕ, zero, suc, ◌+◌, ◌-◌, ◌*◌, ◌/◌, ◌%◌, ◌<◌, ◌≤◌, Bool, true, false, cond, List, [], ◌∷◌, ◌++◌, ℤ, pos, length, take, drop, get_or, nat_lt, arith, append_assoc, append-nil, subst, length-append, length-take, length-take-le, rules}
+use Rattle.std.proofs.Common.{◌≡◌, ◌∙◌, sym, ap, refl, ℕ, suc, ◌+◌, ◌-◌, ◌*◌, ◌/◌, ◌%◌, ◌<◌, ◌≤◌, Bool, true, false, cond, List, [], ◌∷◌, ◌++◌, ℤ, pos, length, take, drop, get_or, nat_lt, arith, append_assoc, append-nil, subst, length-append, length-take-le, rules}
 use Rattle.std.specs.Prelude.{Option, Some, None, IfSome}
 use Rattle.std.proofs.lemmas.List.{drop-drop, drop_more, take-append-drop, take_all}
 use Rattle.std.proofs.Math.Seq.{take-add}
-use Rattle.std.proofs.lemmas.Bool.{lt-ltb, le-ltb}
+use Rattle.std.proofs.lemmas.Bool.{lt-ltb}
 use Rattle.l3_base.specs.declared.rate.Channels.{Channels}
 use Rattle.l3_base.specs.declared.rate.Channels.TheVariants.{Mono, Stereo}
 use Rattle.l3_base.specs.Rates.{channels_of}

@@ -1,4 +1,5 @@
-ghost use Rattle.std.specs.Prelude.{◌≡◌, ◌≤◌, ◌%◌, ◌++◌, Some, IfErr, IfOk, IfSome, OnOk, drop, length};
+ghost use Rattle.std.specs.Prelude.{◌≡◌, ◌≤◌, ◌%◌, ◌++◌, All, FitsSigned, Some, IfErr, IfOk, IfSome, OnOk, drop, length};
+ghost use Rattle.std.specs.Int.{w16};
 ghost use Rattle.l3_base.specs.Rates.{channels_of};
 ghost use Rattle.l3_wav.specs.Pcm.{PcmCause, firsts, left_of, right_count, right_of, seconds};
 ghost use Rattle.l3_wav.specs.Samples.{coming, unread};
@@ -74,6 +75,7 @@ pub fn read_all<S: Source>(alloc: Global, head: &WavHead, source: &mut S) -> Res
         pcm.left.items ≡ left_of head.now.channels (coming (unread head.now.channels head.now.data_bytes) bytes))) }
     ensures right { IfOk result (λ pcm. IfSome (S.left source.old) (λ bytes.
         pcm.right.items ≡ right_of head.now.channels (coming (unread head.now.channels head.now.data_bytes) bytes))) }
+    ensures range { IfOk result (λ pcm. All (FitsSigned w16) pcm.left.items × All (FitsSigned w16) pcm.right.items) }
     ensures rest { OnOk result (IfSome (S.left source.old) (λ bytes. S.left source.new ≡ Some (drop head.now.data_bytes bytes))) }
     ensures few { IfOk result (λ pcm. length pcm.left.items ≤ 2147483647) }
     ensures shape { IfOk result (λ pcm. length pcm.right.items ≡ right_count head.now.channels (length pcm.left.items)) }

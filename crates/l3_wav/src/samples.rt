@@ -1,4 +1,5 @@
-ghost use Rattle.std.specs.Prelude.{◌≡◌, ◌<◌, ◌≤◌, ◌-◌, ◌*◌, ◌%◌, true, false, nat_lt, if◌then◌else◌, List, ℕ, IfOk, OnErr, IfSome, length, take};
+ghost use Rattle.std.specs.Prelude.{◌≡◌, ◌<◌, ◌≤◌, ◌-◌, ◌*◌, ◌%◌, true, false, nat_lt, if◌then◌else◌, List, All, ℕ, FitsSigned, IfOk, OnErr, IfSome, length, take};
+ghost use Rattle.std.specs.Int.{w16};
 ghost use Rattle.std.specs.Io.KnownBytes.{Consumes};
 ghost use Rattle.l3_base.specs.Rates.{channels_of};
 ghost use Rattle.l3_io.specs.Causes.{HasCause};
@@ -48,6 +49,7 @@ impl Samples {
         requires sound { self.old.failed ≡ false }
         ensures content { IfOk result (λ n. IfSome (S.left source.old) (λ left. ReadsValues self.old left n out.new (S.left source.new))) }
         ensures state { IfOk result (λ n. self.new ≡ samples_after self.old n (length out.new)) }
+        ensures range { IfOk result (λ n. All (FitsSigned w16) (take n out.new)) }
         ensures bound { IfOk result (λ n. n ≤ length out.new) }
         ensures declared { IfOk result (λ n. 2 * n ≤ self.old.remaining) }
         ensures samples { IfOk result (λ n. n % channels_of self.old.channels ≡ 0) }
@@ -96,7 +98,8 @@ fn value(low: u8, high: u8) -> i16
 // The values of bytes, two for each.
 fn decode(bytes: &[u8], out: &mut [i16])
     requires { length bytes.now ≡ 2 * length out.old }
-    ensures { out.new ≡ values_of bytes.now }
+    ensures values { out.new ≡ values_of bytes.now }
+    ensures range { All (FitsSigned w16) out.new }
 {
     let mut rest = bytes;
     for slot in out.iter_mut() {
@@ -132,6 +135,7 @@ fn read_block<S: Source>(
     requires room { want ≤ 2 * length out.old }
     ensures content { IfOk result (λ block. IfSome (S.left source.old) (λ left.
         ReadsBlock channels want left block.count block.is_whole out.new (S.left source.new))) }
+    ensures range { IfOk result (λ block. All (FitsSigned w16) (take block.count out.new)) }
     ensures bound { IfOk result (λ block. 2 * block.count ≤ want) }
     ensures samples { IfOk result (λ block. block.count % channels_of channels ≡ 0) }
     ensures whole { IfOk result (λ block. block.is_whole ≡ true → 2 * block.count ≡ whole_bytes channels want) }
@@ -161,6 +165,7 @@ fn read_values<S: Source>(
     requires { length out.old % channels_of channels ≡ 0 }
     ensures content { IfOk result (λ values. IfSome (S.left source.old) (λ left.
         ReadsValues (unread channels declared) left values.count out.new (S.left source.new))) }
+    ensures range { IfOk result (λ values. All (FitsSigned w16) (take values.count out.new)) }
     ensures bound { IfOk result (λ values. values.count ≤ length out.new) }
     ensures declared { IfOk result (λ values. 2 * values.count ≤ declared) }
     ensures samples { IfOk result (λ values. values.count % channels_of channels ≡ 0) }

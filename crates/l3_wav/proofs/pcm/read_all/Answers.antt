@@ -1,7 +1,7 @@
-use Rattle.std.proofs.Common.{rules, ◌≡◌, ◌≤◌, ◌*◌, ◌<◌, ◌^◌, ◌++◌, length, take, arith}
-use Rattle.std.specs.Prelude.{ℤ, List}
+use Rattle.std.proofs.Common.{rules, ◌≡◌, ◌<◌, ◌^◌, ◌++◌, take, arith}
 use Rattle.l3_wav.specs.Pcm.{left_of, right_of}
 use Rattle.l3_wav.specs.Samples.{unread}
+use Rattle.l3_wav.proofs.RangeLemmas.{added_fit, left_of-fit, right_of-fit}
 use Rattle.l3_wav.proofs.PcmLemmas.{GivesAll, turn_state, turn_more, turn_last}
 use Rattle.l3_wav.proofs.pcm.read_all.Goals as goal
 
@@ -18,6 +18,8 @@ loop-there-preserved g c =
       state = turn_state c.args.head.now.channels first c.loop-there.samples c.next.new.self c.in-Ok.there c.next.new.out c.loop-there.left.items c.loop-there.right.items _ _
           (left c.args.source.now) (left c.loop-there.source) (left c.next.new.source) inv.state inv.content read.content read.state read.bound read.declared read.samples lefts rights;
       later = search rules;
+      lefts_fit = added_fit c.loop-there.left.items _ _ lefts inv.lefts_fit (left_of-fit c.args.head.now.channels _ read.range);
+      rights_fit = added_fit c.loop-there.right.items _ _ rights inv.rights_fit (right_of-fit c.args.head.now.channels _ read.range);
       content = turn_more c.args.head.now.channels first c.loop-there.samples c.next.new.self c.in-Ok.there c.next.new.out c.loop-there.left.items c.loop-there.right.items _ _
           (left c.args.source.now) (left c.loop-there.source) (left c.next.new.source) inv.state inv.content read.content read.state read.bound read.declared read.samples lefts rights;
     }
@@ -40,6 +42,16 @@ returns-then-there-lt2048-clause-left g c = (gives g c).lefts_are
 
 pub returns-then-there-lt2048-clause-right : goal.returns-then-there-lt2048-clause-right
 returns-then-there-lt2048-clause-right g c = (gives g c).rights_are
+
+pub returns-then-there-lt2048-clause-range : goal.returns-then-there-lt2048-clause-range
+returns-then-there-lt2048-clause-range g c =
+    let inv = c.loop-there.invariant in
+    let block = take c.in-Ok.there c.next.new.out in
+    let lefts : c.add_samples.new.left.items ≡ c.loop-there.left.items ++ left_of c.args.head.now.channels block = search rules in
+    let rights : c.add_samples.new.right.items ≡ c.loop-there.right.items ++ right_of c.args.head.now.channels block = search rules in (
+      added_fit c.loop-there.left.items _ _ lefts inv.lefts_fit (left_of-fit c.args.head.now.channels block c.in-Ok.ensures.range),
+      added_fit c.loop-there.right.items _ _ rights inv.rights_fit (right_of-fit c.args.head.now.channels block c.in-Ok.ensures.range),
+    )
 
 pub returns-then-there-lt2048-clause-rest : goal.returns-then-there-lt2048-clause-rest
 returns-then-there-lt2048-clause-rest g c = (gives g c).rest

@@ -8,7 +8,7 @@ returns-clause-content g c =
     let count = c.in_ok-there.there / (2 * c.from-channels.result) * c.from-channels.result in
     block_read c.args.channels c.from-channels.result c.args.want c.in_ok-there.there c.read_full.new.buf c.decode.new.out (drop count c.args.out.now)
     (left c.args.source.now) (left c.read_full.new.source) (c.from-channels.ensures ∙ c.number.ensures)
-    c.in_ok-there.ensures.bytes c.in_ok-there.ensures.bound (search rules) c.in_ok-there.ensures.end c.decode.ensures (search rules)
+    c.in_ok-there.ensures.bytes c.in_ok-there.ensures.bound (search rules) c.in_ok-there.ensures.end c.decode.ensures.values (search rules)
 
 pub returns-clause-some : goal.returns-clause-some
 returns-clause-some g c =

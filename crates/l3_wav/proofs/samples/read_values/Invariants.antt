@@ -1,4 +1,4 @@
-use Rattle.std.proofs.Common.{◌≡◌, ◌+◌, ◌-◌, ◌*◌, ◌%◌, ◌≤◌, List, ℕ, length}
+use Rattle.std.proofs.Common.{◌≡◌, ◌+◌, ◌-◌, ◌*◌, ◌%◌, ◌≤◌, List, ℕ, All, FitsSigned, w16, length, take}
 use Rattle.std.specs.Prelude.{IfSome}
 use Rattle.std.specs.Io.KnownBytes.{Consumes}
 use Rattle.l3_base.specs.Rates.{channels_of}
@@ -11,6 +11,7 @@ invariant-loop-count g l = record {
   samples : l.count % channels_of l.channels ≡ 0;
   declared : 2 * l.count + l.remaining ≡ l.declared;
   content : IfSome (g.S.Source.left l.fn.source) (λ left. HasRead l.channels l.declared left l.count l.out (g.S.Source.left l.source));
+  range : All (FitsSigned w16) (take l.count l.out);
   some : (bytes : List ℕ) × (length bytes ≤ 2 * l.count) × Consumes (g.S.Source.left l.fn.source) (g.S.Source.left l.source) bytes;
   later : g.S.Source.faults l.fn.source ≤ g.S.Source.faults l.source;
 }
