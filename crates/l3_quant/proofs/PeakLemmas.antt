@@ -1,11 +1,12 @@
 -- The greatest values of bands.
-use Rattle.std.proofs.Common.{◌≡◌, ◌↔◌, ℕ, zero, suc, ◌+◌, ◌-◌, ◌<◌, ◌≤◌, Bool, true, false, List, [], ◌∷◌, length, get_or, set, take, drop, leb, ℤ, arith, refl, sym, subst, ap, ◌∙◌, inl, inr}
+use Rattle.std.proofs.Common.{◌≡◌, ◌↔◌, ℕ, zero, suc, ◌+◌, ◌-◌, ◌<◌, ◌≤◌, ◌^◌, Bool, true, false, List, [], ◌∷◌, length, get_or, set, take, drop, leb, ℤ, arith, refl, sym, subst, ap, ◌∙◌, inl, inr}
 use Rattle.std.specs.Prelude.{All, Any, slice_range, unsigned_abs}
 use Rattle.std.specs.List.{list_all}
 use Rattle.std.proofs.Math.ListN.{length-set}
 use Rattle.std.proofs.Math.Seq.{take-add, take-length}
 use Rattle.std.proofs.lemmas.Bool.{and_from, and_left, and_right, cases_lt, false_from_ne_true, le-leb, leb-true, lt-leb, true≢false}
 use Rattle.std.proofs.lemmas.Bool.Decides.{Decides-by_and}
+use Rattle.std.proofs.lemmas.List.Elements.{All-from_get_or}
 use Rattle.std.proofs.lemmas.List.Folds.{drop_split, list_all-append}
 use Rattle.std.proofs.Common.{take-append-drop}
 use Rattle.l3_base.specs.declared.rate.SampleRate.{SampleRate}
@@ -15,7 +16,7 @@ use Rattle.l3_tables.specs.Bands.{edge_at, edges_at}
 use Rattle.l3_tables.proofs.Entries.{ordered_at}
 use Rattle.l3_tables.proofs.ListLemmas.{filled_more}
 use Rattle.l3_quant.specs.Quantiser.{IsCodable, magnitude, magnitude_at, steps_of}
-use Rattle.l3_quant.specs.Magnitudes.{ArePeaks}
+use Rattle.l3_quant.specs.Magnitudes.{AreLinePeaks, ArePeaks}
 use Rattle.l3_quant.proofs.Codable.{codable_is_tested, magnitude_at-rises, magnitude_at-zero}
 
 -- ---- edges
@@ -110,51 +111,86 @@ quantised_peak h xs p is n =
 abbrev pub size_at : ℕ → ℤ → ℕ
 size_at h x = magnitude_at (unsigned_abs x) h
 
--- so many bands have their peaks, and none of their values is above 8191
-pub record PeaksSoFar (h frequency : ℕ) (lines : List ℤ) (bands : ℕ) (out : List ℕ) : Type 0 where
+-- so many bands of lines have their peaks
+pub record LinePeaksSoFar (frequency : ℕ) (lines : List ℤ) (bands : ℕ) (peaks : List ℕ) : Type 0 where
+  pub long : length peaks ≡ 22
+  pub value : (b : ℕ) → b < bands → IsPeak unsigned_abs (slice_range lines (edge_at frequency b) (edge_at frequency (b + 1))) (get_or peaks b 0)
+  pub small : (b : ℕ) → b < bands → get_or peaks b 0 < 2 ^ 29
+
+pub no_line_peaks : (frequency : ℕ) (lines : List ℤ) (peaks : List ℕ) → length peaks ≡ 22 → LinePeaksSoFar frequency lines 0 peaks
+no_line_peaks frequency lines peaks long = record { long = long; value = λ b lt. absurd (omega arith); small = λ b lt. absurd (omega arith) }
+
+pub line_peaks_more : (frequency : ℕ) (lines : List ℤ) (band : ℕ) (peaks : List ℕ) (p : ℕ) → band < 22 → LinePeaksSoFar frequency lines band peaks → p < 2 ^ 29 →
+    IsPeak unsigned_abs (slice_range lines (edge_at frequency band) (edge_at frequency (band + 1))) p → LinePeaksSoFar frequency lines (band + 1) (set peaks band p)
+line_peaks_more frequency lines band peaks p lt before small is = record {
+  long = length-set peaks band p ∙ before.long;
+  value = filled_more (λ b n. IsPeak unsigned_abs (slice_range lines (edge_at frequency b) (edge_at frequency (b + 1))) n) peaks band p 0 (omega (arith, before.long)) before.value is;
+  small = filled_more (λ _ n. n < 2 ^ 29) peaks band p 0 (omega (arith, before.long)) before.small small;
+}
+
+pub line_peaks_are : (frequency : ℕ) (rate : SampleRate) (lines spec : List ℤ) (peaks : List ℕ) → length spec ≡ 576 → lines ≡ spec → frequency ≡ hertz_index_of rate →
+    LinePeaksSoFar frequency lines 22 peaks → AreLinePeaks (edges_at (hertz_index_of rate)) spec peaks
+unfolding edge_at
+line_peaks_are frequency rate lines spec peaks long same index so_far =
+    let P : List ℤ → Type 0 = λ xs. LinePeaksSoFar frequency xs 22 peaks in
+    let R : ℕ → Type 0 = λ f. LinePeaksSoFar f spec 22 peaks in
+    let all = subst R index (subst P same so_far) in
+    record { long = long; small = All-from_get_or (λ p. p < 2 ^ 29) peaks 0 (λ k lt. all.small k (omega (arith, all.long, lt))); peaks_are = all.value }
+
+-- so many bands have their quantised peaks, and none of them is above 8191
+pub record PeaksSoFar (h : ℕ) (lines : List ℕ) (bands : ℕ) (out : List ℕ) : Type 0 where
   pub long : length out ≡ 22
-  pub value : (b : ℕ) → b < bands → IsPeak (size_at h) (slice_range lines (edge_at frequency b) (edge_at frequency (b + 1))) (get_or out b 0)
+  pub value : (b : ℕ) → b < bands → get_or out b 0 ≡ magnitude_at (get_or lines b 0) h
   pub bound : (b : ℕ) → b < bands → get_or out b 0 ≤ 8191
-  pub codable : list_all (λ x. leb (size_at h x) 8191) (take (edge_at frequency bands) lines) ≡ true
 
-pub no_peaks : (h frequency : ℕ) (lines : List ℤ) (out : List ℕ) → frequency < 3 → length out ≡ 22 → PeaksSoFar h frequency lines 0 out
-no_peaks h frequency lines out small long = record {
-  long = long;
-  value = λ b lt. absurd (omega arith);
-  bound = λ b lt. absurd (omega arith);
-  codable = rw (edge_ends frequency small).0 refl;
+pub no_peaks : (h : ℕ) (lines out : List ℕ) → length out ≡ 22 → PeaksSoFar h lines 0 out
+no_peaks h lines out long = record { long = long; value = λ b lt. absurd (omega arith); bound = λ b lt. absurd (omega arith) }
+
+pub peaks_more : (h : ℕ) (lines : List ℕ) (band : ℕ) (out : List ℕ) (n : ℕ) → band < 22 → PeaksSoFar h lines band out → n ≤ 8191 → n ≡ magnitude_at (get_or lines band 0) h →
+    PeaksSoFar h lines (band + 1) (set out band n)
+peaks_more h lines band out n lt before bound is = record {
+  long = length-set out band n ∙ before.long;
+  value = filled_more (λ b m. m ≡ magnitude_at (get_or lines b 0) h) out band n 0 (omega (arith, before.long)) before.value is;
+  bound = filled_more (λ _ m. m ≤ 8191) out band n 0 (omega (arith, before.long)) before.bound bound;
 }
 
-pub peaks_more : (h frequency : ℕ) (lines : List ℤ) (band : ℕ) (out : List ℕ) (p : ℕ) → frequency < 3 → band < 22 → PeaksSoFar h frequency lines band out → p ≤ 8191 →
-    IsPeak (size_at h) (slice_range lines (edge_at frequency band) (edge_at frequency (band + 1))) p → PeaksSoFar h frequency lines (band + 1) (set out band p)
-peaks_more h frequency lines band out p small lt before bound is = record {
-  long = length-set out band p ∙ before.long;
-  value = filled_more (λ b n. IsPeak (size_at h) (slice_range lines (edge_at frequency b) (edge_at frequency (b + 1))) n) out band p 0 (omega (arith, before.long)) before.value is;
-  bound = filled_more (λ _ n. n ≤ 8191) out band p 0 (omega (arith, before.long)) before.bound bound;
-  codable = front_more (λ x. leb (size_at h x) 8191) lines (edge_at frequency band) (edge_at frequency (band + 1)) (omega (arith, edge_rises frequency band small lt)) before.codable (is 8191 ∙ le-leb p 8191 bound);
-}
+-- what passes in each of the bands passes in all lines
+pub bands_cover : (p : ℤ → Bool) (rate : ℕ) (xs : List ℤ) → rate < 3 → length xs ≡ 576 →
+    ((b : ℕ) → b < 22 → list_all p (slice_range xs (edge_at rate b) (edge_at rate (b + 1))) ≡ true) → list_all p xs ≡ true
+bands_cover p rate xs small long each =
+    let front : take (edge_at rate 22) xs ≡ xs = ap (λ n. take n xs) ((edge_ends rate small).1 ∙ sym long) ∙ take-length xs in
+    ap (list_all p) (sym front) ∙ fronts 22 (omega arith)
+  where
+    fronts : (k : ℕ) → k ≤ 22 → list_all p (take (edge_at rate k) xs) ≡ true
+    fronts zero le = rw (edge_ends rate small).0 refl
+    fronts (suc k) le = let next : suc k ≡ k + 1 = omega arith in rw next (front_more p xs (edge_at rate k) (edge_at rate (k + 1)) (omega (arith, edge_rises rate k small (omega arith))) (fronts k (omega arith)) (each k (omega arith)))
 
 -- the words of the contract
-pub peaks_codable : (h frequency : ℕ) (gain : ℤ) (lines spec : List ℤ) (out : List ℕ) → frequency < 3 → length spec ≡ 576 → lines ≡ spec → h ≡ steps_of gain →
-    PeaksSoFar h frequency lines 22 out → IsCodable gain spec
-peaks_codable h frequency gain lines spec out small long same steps peaks =
-    let front : take (edge_at frequency 22) spec ≡ spec = ap (λ n. take n spec) ((edge_ends frequency small).1 ∙ sym long) ∙ take-length spec in
-    let P : ℕ → Type 0 = λ k. list_all (λ x. leb (size_at k x) 8191) spec ≡ true in
-    (codable_is_tested gain spec).0 (subst P steps (ap (list_all (λ x. leb (size_at h x) 8191)) (sym front ∙ ap (take (edge_at frequency 22)) (sym same)) ∙ peaks.codable))
-
-pub peaks_are : (h frequency : ℕ) (gain : ℤ) (rate : SampleRate) (lines spec : List ℤ) (out : List ℕ) → lines ≡ spec → h ≡ steps_of gain → frequency ≡ hertz_index_of rate →
-    PeaksSoFar h frequency lines 22 out → ArePeaks (edges_at (hertz_index_of rate)) gain spec out
+pub peaks_are : (gain : ℤ) (h : ℕ) (lines out : List ℕ) → h ≡ steps_of gain → PeaksSoFar h lines 22 out → (rate : SampleRate) (spec : List ℤ) →
+    AreLinePeaks (edges_at (hertz_index_of rate)) spec lines → ArePeaks (edges_at (hertz_index_of rate)) gain spec out
 unfolding edge_at
-peaks_are h frequency gain rate lines spec out same steps index peaks =
-    let P : List ℤ → Type 0 = λ xs. PeaksSoFar h frequency xs 22 out in
-    let R : ℕ → Type 0 = λ f. PeaksSoFar h f spec 22 out in
-    let S : ℕ → Type 0 = λ k. PeaksSoFar k (hertz_index_of rate) spec 22 out in
-    (subst S steps (subst R index (subst P same peaks))).value
+peaks_are gain h lines out steps peaks rate spec are = λ b lt.
+    let part = slice_range spec (edge_at (hertz_index_of rate) b) (edge_at (hertz_index_of rate) (b + 1)) in
+    let P : ℕ → Type 0 = λ k. IsPeak (size_at k) part (get_or out b 0) in
+    let Q : ℕ → Type 0 = IsPeak (size_at h) part in
+    subst P steps (subst Q (sym (peaks.value b lt)) (quantised_peak h part (get_or lines b 0) (are.peaks_are b lt)))
 
-pub band_above : (h frequency band : ℕ) (gain : ℤ) (lines spec : List ℤ) → frequency < 3 → band < 22 → lines ≡ spec → h ≡ steps_of gain →
-    list_all (λ x. leb (size_at h x) 8191) (slice_range lines (edge_at frequency band) (edge_at frequency (band + 1))) ≡ false → Any (λ x. 8191 < magnitude gain x) spec
-band_above h frequency band gain lines spec small lt same steps bad =
-    let P : List ℤ → Type 0 = λ xs. Any (λ x. 8191 < size_at h x) xs in
+pub peaks_codable : (gain : ℤ) (h : ℕ) (lines out : List ℕ) → h ≡ steps_of gain → PeaksSoFar h lines 22 out → (rate : SampleRate) (spec : List ℤ) →
+    AreLinePeaks (edges_at (hertz_index_of rate)) spec lines → IsCodable gain spec
+unfolding edge_at
+peaks_codable gain h lines out steps peaks rate spec are =
+    let each = peaks_are gain h lines out steps peaks rate spec are in
+    let below : (b : ℕ) → b < 22 → leb (get_or out b 0) 8191 ≡ true = λ b lt. le-leb (get_or out b 0) 8191 (peaks.bound b lt) in
+    (codable_is_tested gain spec).0 (bands_cover (λ x. leb (magnitude gain x) 8191) (hertz_index_of rate) spec (index_small rate) are.long (λ b lt. each b lt 8191 ∙ below b lt))
+
+pub peak_above : (gain : ℤ) (h band : ℕ) (lines : List ℕ) → h ≡ steps_of gain → band < 22 → 8191 < magnitude_at (get_or lines band 0) h → (rate : SampleRate) (spec : List ℤ) →
+    AreLinePeaks (edges_at (hertz_index_of rate)) spec lines → Any (λ x. 8191 < magnitude gain x) spec
+unfolding edge_at
+peak_above gain h band lines steps lt above rate spec are =
+    let index = hertz_index_of rate in
+    let part = slice_range spec (edge_at index band) (edge_at index (band + 1)) in
+    let peak : IsPeak (size_at h) part (magnitude_at (get_or lines band 0) h) = quantised_peak h part (get_or lines band 0) (are.peaks_are band lt) in
+    let bad : list_all (λ x. leb (size_at h x) 8191) part ≡ false = peak 8191 ∙ lt-leb (magnitude_at (get_or lines band 0) h) 8191 above in
     let R : ℕ → Type 0 = λ k. Any (λ x. 8191 < size_at k x) spec in
-    subst R steps (subst P same (one_above (size_at h) 8191 lines
-    (slice-fails (λ x. leb (size_at h x) 8191) lines (edge_at frequency band) (edge_at frequency (band + 1)) (omega (arith, edge_rises frequency band small lt)) bad)))
+    subst R steps (one_above (size_at h) 8191 spec
+    (slice-fails (λ x. leb (size_at h x) 8191) spec (edge_at index band) (edge_at index (band + 1)) (omega (arith, edge_rises index band (index_small rate) lt)) bad))

@@ -20,7 +20,7 @@ mod thresholds;
 pub use cut::cut_values;
 pub use gains::first_gain;
 pub use laws::{codable_gains, greatest_value, threshold_laws};
-pub use peaks::band_peaks;
+pub use peaks::{band_peaks, line_peaks};
 pub use plain::plain_line;
 pub use quantiser::{all, line};
 

@@ -1,6 +1,6 @@
 ghost use Rattle.std.specs.Prelude.{◌≤ℤ◌, pos, negsuc};
 
-use crate::{all, band_peaks, cut_values, first_gain, line, plain_line};
+use crate::{all, band_peaks, cut_values, first_gain, line, line_peaks, plain_line};
 use l3_base::{SampleRate, Spectrum};
 use l3_tables::edge;
 
@@ -121,7 +121,12 @@ fn cuts_and_peaks(rt: HostRuntime) {
             (0, value, value),
             "at {x}, {gain}"
         );
-        let coded = band_peaks(&spec, SampleRate::Hz44100, gain, &mut peaks);
+        let lines = line_peaks(&spec, SampleRate::Hz44100);
+        assert_eq!(rt;
+            (lines[4], lines[5], lines[21]),
+            (0, x.unsigned_abs(), x.unsigned_abs())
+        );
+        let coded = band_peaks(&lines, gain, &mut peaks);
         assert_eq!(rt; coded, gain > 0, "at {x}, {gain}");
         if coded {
             assert_eq!(rt;
@@ -155,7 +160,7 @@ fn peaks_agree(spec: &Spectrum, gain: i16) -> bool
     requires high { gain ≤ℤ pos 255 }
 {
     let mut peaks = no_peaks();
-    let whole = band_peaks(spec, SampleRate::Hz32000, gain, &mut peaks);
+    let whole = band_peaks(&line_peaks(spec, SampleRate::Hz32000), gain, &mut peaks);
     let mut greatest = 0;
     let mut same = true;
     let lines = spec.lines();
