@@ -57,10 +57,6 @@ pub threshold_is : (n : ℕ) → n < 8193 → IsThreshold n (threshold_at n)
 unfolding threshold_at
 threshold_is n lt = thresholds_all n THRESHOLDS refl lt
 
-pub threshold_none : threshold_at 0 ≡ 0
-unfolding threshold_at
-threshold_none = refl
-
 -- between two thresholds lies the greatest value that is reached
 pub between_is : (n y : ℕ) → n < 8192 → threshold_at n ≤ y → y < threshold_at (n + 1) → greatest_reached y ≡ n
 between_is n y room le lt =

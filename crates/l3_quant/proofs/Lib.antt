@@ -3,6 +3,7 @@ pub mod ReachedLemmas
 pub mod Scales
 pub mod Entries
 pub mod Blocks
+pub mod HighBlocks
 pub mod Codable
 pub mod LimitLemmas
 pub mod PeakLemmas

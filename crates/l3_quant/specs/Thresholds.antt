@@ -1,6 +1,6 @@
 -- The thresholds of the quantised values.
 use Rattle.std.specs.Prelude.{ℕ, ◌≤◌, slice_index}
-use Rattle.l3_quant.specs.declared.thresholds.TheConstants.{THRESHOLDS, FIRST, MIDDLE}
+use Rattle.l3_quant.specs.declared.thresholds.TheConstants.{THRESHOLDS, FIRST, MIDDLE, HIGH}
 use Rattle.l3_quant.specs.Quantiser.{Reaches}
 
 -- y is the least that reaches n
@@ -19,3 +19,7 @@ first_at block = slice_index FIRST block
 -- what the first number of a block of 8192 reaches
 unfoldable pub middle_at : ℕ → ℕ
 middle_at block = slice_index MIDDLE block
+
+-- what the first number of a block of 2^19 from 2^24 on reaches, cut at 8176
+unfoldable pub high_at : ℕ → ℕ
+high_at block = slice_index HIGH block
