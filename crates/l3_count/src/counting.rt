@@ -1,12 +1,13 @@
 ghost use Rattle.std.specs.Prelude.{◌≡◌, ◌+◌, ◌<◌, Any, IfNone, IfSome, pos, replicate};
 ghost use Rattle.l3_base.specs.Rates.{hertz_index_of};
 ghost use Rattle.l3_quant.specs.Quantiser.{IsCodable, magnitude};
+ghost use Rattle.l3_quant.specs.Magnitudes.{AreLinePeaks};
 ghost use Rattle.l3_region.specs.Bands.{edges_at};
 ghost use Rattle.l3_count.specs.Count.{count_of};
 
 use crate::count::Count;
 use l3_base::{SampleRate, Spectrum, Steps};
-use l3_quant::{band_peaks, cut_values};
+use l3_quant::{band_peaks, cut_values, line_peaks};
 use std::sync::ledger::Ledger;
 
 /// Room for 576 absolute values.
@@ -37,12 +38,29 @@ pub fn count_at<L: Ledger + Send>(
     ensures none { IfNone result (Any (λ x. 8191 < magnitude (pos gain) x) spec.now) }
     ensures ticks { steps.new ≡ steps.old + 1 }
 {
+    count_with(spec, &line_peaks(spec, rate), rate, gain, steps)
+}
+
+/// The same over the spectrum's greatest line of each band, which serve all gains and are made once by `line_peaks`.
+pub fn count_with<L: Ledger + Send>(
+    spec: &Spectrum,
+    peaks: &[u32; 22],
+    rate: SampleRate,
+    gain: u8,
+    steps: &mut Steps<L>,
+) -> Option<Count>
+    requires peaks { AreLinePeaks (edges_at (hertz_index_of rate)) spec.now peaks.now }
+    ensures value { result ≡ count_of (edges_at (hertz_index_of rate)) spec.now gain }
+    ensures some { IfSome result (λ c. IsCodable (pos gain) spec.now) }
+    ensures none { IfNone result (Any (λ x. 8191 < magnitude (pos gain) x) spec.now) }
+    ensures ticks { steps.new ≡ steps.old + 1 }
+{
     steps.tick();
-    let mut peaks = no_peaks();
-    if band_peaks(spec, rate, i16::from(gain), &mut peaks) {
+    let mut quantised = no_peaks();
+    if band_peaks(peaks, i16::from(gain), &mut quantised) {
         let mut cut = no_values();
         cut_values(spec, i16::from(gain), &mut cut);
-        Some(Count::of_cut(&cut, &peaks, rate, gain))
+        Some(Count::of_cut(&cut, &quantised, rate, gain))
     } else {
         None
     }
