@@ -2,14 +2,15 @@ ghost use Rattle.std.specs.Prelude.{◌≡◌, ◌≤◌, ◌+◌, All, Some};
 ghost use Rattle.l3_base.specs.Rates.{hertz_index_of};
 ghost use Rattle.l3_base.specs.Spectrum.{IsLine};
 ghost use Rattle.l3_quant.specs.Gains.{first_gain_of};
+ghost use Rattle.l3_quant.specs.Magnitudes.{AreLinePeaks};
 ghost use Rattle.l3_count.specs.Bands.{edges_at};
 ghost use Rattle.l3_count.specs.Count.{count_of};
 ghost use Rattle.l3_count.specs.Memo.{IsMemoOf};
 ghost use Rattle.l3_search.specs.Gain.{HasCountsTo, IsLeastWithin, lacking, picked, picked_gain, tried_of};
 
 use l3_base::{SampleRate, Spectrum, Steps};
-use l3_count::{Count, Memo, count_at};
-use l3_quant::first_gain;
+use l3_count::{Count, Memo, count_with};
+use l3_quant::{first_gain, line_peaks};
 use std::sync::ledger::Ledger;
 
 /// What a unit takes within its budget.
@@ -34,11 +35,13 @@ fn start(spec: &Spectrum) -> u8
 /// Makes the count at a gain that is no less than the first one, and puts it into the memo.
 fn make<L: Ledger + Send>(
     spec: &Spectrum,
+    peaks: &[u32; 22],
     rate: SampleRate,
     gain: u8,
     memo: &mut Memo,
     steps: &mut Steps<L>,
 ) -> Count
+    requires peaks { AreLinePeaks (edges_at (hertz_index_of rate)) spec.now peaks.now }
     requires first { first_gain_of spec.now ≤ gain }
     requires memo { IsMemoOf (edges_at (hertz_index_of rate)) spec.now memo.old }
     ensures count { count_of (edges_at (hertz_index_of rate)) spec.now gain ≡ Some result }
@@ -46,7 +49,7 @@ fn make<L: Ledger + Send>(
     ensures memo { HasCountsTo (edges_at (hertz_index_of rate)) spec.now gain gain memo.old memo.new }
     ensures kept { IsMemoOf (edges_at (hertz_index_of rate)) spec.now memo.new }
 {
-    match count_at(spec, rate, gain, steps) {
+    match count_with(spec, peaks, rate, gain, steps) {
         None => unreachable!(),
         Some(count) => {
             memo.put(count);
@@ -58,11 +61,13 @@ fn make<L: Ledger + Send>(
 /// The memo's count at a gain that is no less than the first one, or where it has none, one that is made.
 fn look_up<L: Ledger + Send>(
     spec: &Spectrum,
+    peaks: &[u32; 22],
     rate: SampleRate,
     gain: u8,
     memo: &mut Memo,
     steps: &mut Steps<L>,
 ) -> Picked
+    requires peaks { AreLinePeaks (edges_at (hertz_index_of rate)) spec.now peaks.now }
     requires first { first_gain_of spec.now ≤ gain }
     requires memo { IsMemoOf (edges_at (hertz_index_of rate)) spec.now memo.old }
     ensures count { count_of (edges_at (hertz_index_of rate)) spec.now gain ≡ Some result.count }
@@ -75,7 +80,7 @@ fn look_up<L: Ledger + Send>(
     match memo.get(gain) {
         Some(count) => Picked { count, made: 0 },
         None => {
-            let count = make(spec, rate, gain, memo, steps);
+            let count = make(spec, peaks, rate, gain, memo, steps);
             Picked { count, made: 1 }
         }
     }
@@ -104,12 +109,13 @@ pub fn pick<L: Ledger + Send>(
     ensures memo { HasCountsTo (edges_at (hertz_index_of rate)) spec.now (first_gain_of spec.now) (picked_gain (edges_at (hertz_index_of rate)) spec.now budget) memo.old memo.new }
     ensures kept { IsMemoOf (edges_at (hertz_index_of rate)) spec.now memo.new }
 {
+    let peaks = line_peaks(spec, rate);
     let mut gain = start(spec);
-    let mut found = look_up(spec, rate, gain, memo, steps);
+    let mut found = look_up(spec, &peaks, rate, gain, memo, steps);
     let mut made = found.made;
     while found.count.bits() > budget {
         gain += 1;
-        found = look_up(spec, rate, gain, memo, steps);
+        found = look_up(spec, &peaks, rate, gain, memo, steps);
         made += found.made;
     }
     Picked {
