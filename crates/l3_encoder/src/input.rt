@@ -1,4 +1,5 @@
 ghost use Rattle.std.specs.Prelude.{◌≡◌, ◌≤◌, IfOk, IfErr, IfSome, length};
+ghost use Rattle.l3_commit.specs.Laws.{AreSamples};
 ghost use Rattle.l3_commit.specs.Standing.{IsRightOf};
 ghost use Rattle.l3_io.specs.Causes.{Rose};
 ghost use Rattle.l3_encoder.specs.Encoded.{settings_at};
@@ -36,6 +37,7 @@ pub fn read_input<S: Source>(
 ) -> Result<Input, EncodeFault>
     ensures content { IfOk result (λ input. IfSome (S.left source.old) (λ bytes.
         IsInput rate bytes input.settings input.pcm.left.items input.pcm.right.items (S.left source.new))) }
+    ensures range { IfOk result (λ input. AreSamples input.pcm.left.items × AreSamples input.pcm.right.items) }
     ensures few { IfOk result (λ input. length input.pcm.left.items ≤ 2147483647) }
     ensures shape { IfOk result (λ input. IsRightOf input.settings.channels input.pcm.left.items input.pcm.right.items) }
     ensures refused { IfErr result (λ fault. RefusesInput fault (Rose (S.faults source.old) (S.faults source.new)) (S.left source.old)) }

@@ -15,15 +15,6 @@ use l3_wav::Pcm;
 use std::alloc::Global;
 use std::sync::ledger::Ledger;
 
-// Samples are numbers of 16 bits, as their type says at each of them.
-fn known_samples(samples: &[i16])
-    ensures { AreSamples samples.now }
-{
-    for k in 0..samples.len() {
-        let _sample = samples[k];
-    }
-}
-
 // Commits granule after granule, and gives each frame to the sink once its second granule is committed.
 fn write_frames<K: Sink, L: Ledger + Send>(
     settings: Settings,
@@ -64,7 +55,8 @@ fn write_frames<K: Sink, L: Ledger + Send>(
     })
 }
 
-/// Gives the encoding of samples to a sink. Of `left` there are at most 2147483647, and of `right` none in mono and else as many.
+/// Gives the encoding of samples of 16 bits to a sink. Of `left` there are at most 2147483647, and of `right` none in mono
+/// and else as many.
 pub fn encode_pcm<K: Sink, L: Ledger + Send>(
     alloc: Global,
     settings: Settings,
@@ -73,14 +65,13 @@ pub fn encode_pcm<K: Sink, L: Ledger + Send>(
     steps: &mut Steps<L>,
 ) -> Result<Report, EncodeFault>
     requires few { length pcm.left.items ≤ 2147483647 }
+    requires range { AreSamples pcm.left.items × AreSamples pcm.right.items }
     requires shape { IsRightOf settings.channels pcm.left.items pcm.right.items }
     ensures gives { GivesEncoding settings pcm.left.items pcm.right.items result (Rose (K.faults sink.old) (K.faults sink.new))
         (sink.new ≡ sink.old) (K.taken sink.old) (K.taken sink.new) }
     ensures later { K.faults sink.old ≤ K.faults sink.new }
     ensures ticks { IfOk result (λ report. steps.new ≡ steps.old + report.made) }
 {
-    known_samples(&pcm.left);
-    known_samples(&pcm.right);
     let Ok(committer) = Committer::open(alloc, settings, pcm) else {
         return Err(EncodeFault::Memory);
     };

@@ -1,4 +1,4 @@
-use Rattle.std.proofs.Common.{◌≡◌, ◌∙◌, ap, ℕ, ◌+◌, length}
+use Rattle.std.proofs.Common.{◌∙◌, ap, ℕ, ◌+◌}
 use Rattle.std.proofs.lemmas.Result.{err_from_is_err_and}
 use Rattle.std.specs.Prelude.{Result, Ok, Err}
 use Rattle.l3_encoder.proofs.Going.{going-first, going-on, going-push, going-failed, going-finished, is-false, frame-fits, granule-done, still-both}

@@ -1,4 +1,4 @@
-use Rattle.std.proofs.Common.{◌-◌, ℕ}
+use Rattle.std.proofs.Common.{◌-◌}
 use Rattle.l3_commit.specs.Tracks.{next_of}
 use Rattle.l3_commit.specs.Standing.{total_of}
 use Rattle.l3_encoder.proofs.Going.{Going}
