@@ -165,6 +165,9 @@ fn impulse_at_128_kbit(rt: HostRuntime) -> Result<(), Fail> {
     assert_eq!(rt; sink.bytes().get(13..611), Some(middle()));
     assert_eq!(rt; sink.bytes().get(..13), stream.get(..13));
     assert_eq!(rt; sink.bytes().get(611..), stream.get(611..));
+    let (status, sink, _, _) = run(&rt, &["check"], sink.bytes(), 100, &[])?;
+    assert_eq!(rt; status, Some(Status::Ok));
+    assert_eq!(rt; sink.bytes(), b"frames 3 bits 4539\n".as_slice());
     Ok(())
 }
 
