@@ -17,7 +17,7 @@ use l3_reservoir::Reserve;
 use l3_search::{Picked, pick};
 use std::sync::ledger::Ledger;
 
-/// What is made of one channel of a granule.
+// What is made of one channel of a granule.
 #[derive(Drop)]
 pub(crate) struct Analysis {
     pub(crate) spectrum: Spectrum,
@@ -26,7 +26,7 @@ pub(crate) struct Analysis {
 }
 
 impl Analysis {
-    /// Nothing was made yet.
+    // Nothing was made yet.
     pub(crate) fn new() -> Analysis
         ensures { result.memo ≡ no_counts }
     {
@@ -37,7 +37,7 @@ impl Analysis {
         }
     }
 
-    /// Makes spectrum and demand of a window's samples.
+    // Makes spectrum and demand of a window's samples.
     pub(crate) fn transform(&mut self, samples: &[i16; 1632], rate: SampleRate)
         ensures spectrum { self.new.spectrum ≡ spectrum_of samples.now }
         ensures demand { self.new.demand ≡ demand_of (hertz_index_of rate) (spectrum_of samples.now) }
@@ -49,7 +49,7 @@ impl Analysis {
         self.demand = demand(&self.spectrum, rate);
     }
 
-    /// Picks the gain for a budget, with the counts that the memo has.
+    // Picks the gain for a budget, with the counts that the memo has.
     pub(crate) fn choose<L: Ledger + Send>(
         &mut self,
         rate: SampleRate,
@@ -71,7 +71,7 @@ impl Analysis {
         pick(&self.spectrum, rate, budget, &mut self.memo, steps)
     }
 
-    /// Picks the gain for the budget under a reserve, and spends the bits of its count.
+    // Picks the gain for the budget under a reserve, and spends the bits of its count.
     pub(crate) fn presume<L: Ledger + Send>(
         &mut self,
         settings: &Settings,

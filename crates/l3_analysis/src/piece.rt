@@ -38,7 +38,7 @@ impl Model for Piece {
     ghost invariant = { λ p. AreAnalyses p.settings p.stage p.window p.left p.right };
 }
 
-/// The number of the first granule.
+// The number of the first granule.
 fn first() -> GranuleNo
     ensures { result ≡ 0 }
 {
@@ -48,7 +48,7 @@ fn first() -> GranuleNo
     }
 }
 
-/// A window of zeros.
+// A window of zeros.
 #[inline(always)]
 fn zeros() -> Window
     ensures { result ≡ silence }

@@ -11,7 +11,7 @@ use std::alloc::{AllocError, Global};
 use std::sync::Wait;
 use std::thread::{Threads, for_each_mut, join_mut};
 
-/// An item that the committer loads for a granule, and a worker works on.
+// An item that the committer loads for a granule, and a worker works on.
 pub(crate) trait Piece: Numbered {
     fn load(&mut self, number: GranuleNo)
         ensures { Self.number_of self.new ≡ number };
@@ -20,12 +20,12 @@ pub(crate) trait Piece: Numbered {
         ensures { Self.number_of self.new ≡ Self.number_of self.old };
 }
 
-/// Takes granules' numbers, or refuses.
+// Takes granules' numbers, or refuses.
 pub(crate) trait Sink {
     fn put(&mut self, number: u64) -> bool;
 }
 
-/// Commits granules in order, with a piece of its own.
+// Commits granules in order, with a piece of its own.
 #[derive(Drop)]
 pub(crate) struct Committer<P: Piece> {
     pub(crate) base: u64,
@@ -193,7 +193,7 @@ fn work_all<P: Piece + Send, B: Board<Item = P> + Sync, R: Threads + Wait + Sync
     );
 }
 
-/// Commits all granules beside a worker for each seat, and tells whether none was refused.
+// Commits all granules beside a worker for each seat, and tells whether none was refused.
 pub(crate) fn encode_over<
     P: Piece + Send,
     K: Sink,
@@ -229,8 +229,8 @@ pub(crate) fn encode_over<
     whole
 }
 
-/// The same over a board under a lock, which threads may share whatever the pieces. Gives besides how many granules
-/// were served.
+// The same over a board under a lock, which threads may share whatever the pieces. Gives besides how many granules
+// were served.
 pub(crate) fn encode_with<P: Piece + Send, K: Sink, R: Threads + Wait + Sync>(
     rt: &R,
     alloc: Global,

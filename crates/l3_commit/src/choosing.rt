@@ -18,15 +18,15 @@ use l3_search::{Memo, pick};
 use l3_stream::{QuadTable, Unit};
 use std::sync::ledger::Ledger;
 
-/// Where a unit's bits come from.
+// Where a unit's bits come from.
 #[derive(Clone, Copy)]
 pub(crate) struct Place {
     pub(crate) settings: Settings,
-    /// The number of its frame, at most 2^32.
+    // The number of its frame, at most 2^32.
     pub(crate) frame: u64,
 }
 
-/// A unit that is zero in every field, with table A.
+// A unit that is zero in every field, with table A.
 fn blank_unit() -> Unit
     ensures { result ≡ blank }
 {
@@ -43,7 +43,7 @@ fn blank_unit() -> Unit
     }
 }
 
-/// The bits that a unit may take under the reserve before it.
+// The bits that a unit may take under the reserve before it.
 fn budget(reserve: &Reserve, place: Place, spec: &Spectrum) -> u32
     requires { place.frame ≤ 2 ^ 32 }
     ensures value { result ≡ budget_at place.settings place.frame reserve.now spec.now }
@@ -57,7 +57,7 @@ fn budget(reserve: &Reserve, place: Place, spec: &Spectrum) -> u32
     )
 }
 
-/// Writes the unit that is picked within a budget, and takes its bits. The answer is how many gains were tried.
+// Writes the unit that is picked within a budget, and takes its bits. The answer is how many gains were tried.
 fn choose<L: Ledger + Send>(
     reserve: &mut Reserve,
     place: Place,
@@ -87,7 +87,7 @@ fn choose<L: Ledger + Send>(
     picked.made
 }
 
-/// Writes the units of a granule under the reserve before it. The answer is how many gains were tried.
+// Writes the units of a granule under the reserve before it. The answer is how many gains were tried.
 pub(crate) fn choose_granule<L: Ledger + Send>(
     reserve: &mut Reserve,
     place: Place,
@@ -121,7 +121,7 @@ pub(crate) fn choose_granule<L: Ledger + Send>(
     }
 }
 
-/// 576 lines of value 0.
+// 576 lines of value 0.
 #[inline(always)]
 fn no_lines() -> [i16; 576]
     ensures { result ≡ zero_lines 576 }
@@ -129,7 +129,7 @@ fn no_lines() -> [i16; 576]
     [0; 576]
 }
 
-/// Units of two granules, all of them blank.
+// Units of two granules, all of them blank.
 pub(crate) fn no_units() -> [[Unit; 2]; 2]
     ensures { result ≡ (blank ∷ blank ∷ []) ∷ (blank ∷ blank ∷ []) ∷ [] }
 {

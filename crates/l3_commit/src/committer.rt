@@ -24,7 +24,7 @@ use std::alloc::{AllocError, Global};
 use std::marker::Model;
 use std::sync::ledger::Ledger;
 
-/// Samples in a frame, for each channel.
+// Samples in a frame, for each channel.
 const FRAME: u64 = 1152;
 
 /// Goes through the granules of some samples and gives their chosen frames, in order.
@@ -58,7 +58,7 @@ impl Model for Committer {
     ghost invariant = { λ c. length c.pcm.left.items ≤ 2147483647 };
 }
 
-/// How many granules so many samples of a channel are to have: two to a frame.
+// How many granules so many samples of a channel are to have: two to a frame.
 fn granules(samples: usize) -> u64
     requires { samples ≤ 2147483647 }
     ensures value { result ≡ granules_for samples }
@@ -71,7 +71,7 @@ fn granules(samples: usize) -> u64
     }
 }
 
-/// Makes the spectrum of a granule of samples.
+// Makes the spectrum of a granule of samples.
 fn transform(
     samples: &[i16],
     granule: u64,
@@ -87,7 +87,7 @@ fn transform(
     spectrum(slots, lines);
 }
 
-/// A window of zeros.
+// A window of zeros.
 fn no_window() -> [i16; 1632] {
     [0; 1632]
 }

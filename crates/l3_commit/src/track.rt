@@ -23,7 +23,7 @@ pub struct GranuleDone {
     pub tried: u32,
 }
 
-/// The choice of frames, granule after granule.
+// The choice of frames, granule after granule.
 #[derive(Drop)]
 pub(crate) struct Track {
     settings: Settings,
@@ -50,7 +50,7 @@ impl Track {
     ghost use Rattle.l3_commit.specs.Resting.{RestsTrack};
     ghost use Rattle.l3_stream.specs.declared.unit.ChosenFrame.{ChosenFrame};
 
-    /// Before granule 0.
+    // Before granule 0.
     pub(crate) fn new(settings: Settings) -> Track
         ensures { result ≡ first_track settings }
     {
@@ -67,14 +67,14 @@ impl Track {
         }
     }
 
-    /// The channels of its settings.
+    // The channels of its settings.
     pub(crate) fn channels(&self) -> Channels
         ensures { result ≡ self.now.settings.channels }
     {
         self.settings.channels
     }
 
-    /// The number of the granule that comes next.
+    // The number of the granule that comes next.
     pub(crate) fn next(&self) -> u64
         ensures value { result ≡ next_of self.now }
         ensures kept { IsTrack self.now }
@@ -82,7 +82,7 @@ impl Track {
         2 * self.frame + u64::from(self.done)
     }
 
-    /// Takes the units of granule `next()`, which has these spectra. In mono `right` does not count.
+    // Takes the units of granule `next()`, which has these spectra. In mono `right` does not count.
     pub(crate) fn commit_granule<L: Ledger + Send>(
         &mut self,
         number: GranuleNo,
@@ -118,7 +118,7 @@ impl Track {
         GranuleDone { made: tried, tried }
     }
 
-    /// Ends the frame and lends it out. Whatever frames it can follow, the next frame can follow them and it.
+    // Ends the frame and lends it out. Whatever frames it can follow, the next frame can follow them and it.
     pub(crate) fn commit_frame(&mut self) -> &ChosenFrame
         requires { length self.old.granules ≡ 2 }
         ensures frame { result.now ≡ record { begin = self.old.begin; units = self.old.granules } }

@@ -9,7 +9,7 @@ use l3_quant::all;
 use l3_search::Count;
 use l3_stream::Unit;
 
-/// Writes the unit of a count of this spectrum: the fields that the count says, and the quantised values of the lines at its gain.
+// Writes the unit of a count of this spectrum: the fields that the count says, and the quantised values of the lines at its gain.
 pub(crate) fn write_unit(spec: &Spectrum, count: &Count, unit: &mut Unit)
     requires own { IsCountIn spec.now count.now }
     ensures { unit.new ≡ unit_of count.now (quantised_lines (pos count.now.gain) spec.now) }

@@ -1,10 +1,10 @@
 ghost use Rattle.std.specs.Prelude.{◌≡◌, ◌*◌, ◌≤◌, pos, ◌-ℤ◌};
 ghost use Rattle.l3_tables.specs.Filterbank.{sample_at, window_of};
 
-/// How many samples before its granule's own first one a window begins.
+// How many samples before its granule's own first one a window begins.
 const BEFORE: u64 = 1056;
 
-/// The sample so many places after the one 1056 before the first, 0 outside the samples.
+// The sample so many places after the one 1056 before the first, 0 outside the samples.
 #[inline(always)]
 fn sample(samples: &[i16], place: u64) -> i16
     ensures { result ≡ sample_at samples.now (pos place -ℤ pos 1056) }
@@ -18,7 +18,7 @@ fn sample(samples: &[i16], place: u64) -> i16
     }
 }
 
-/// Fills in a window sample by sample: some of it may be outside the samples.
+// Fills in a window sample by sample: some of it may be outside the samples.
 fn fill_at_an_end(window: &mut [i16; 1632], samples: &[i16], granule: u64)
     requires { granule ≤ 8589934592 }
     ensures { window.new ≡ window_of samples.now granule }
@@ -28,7 +28,7 @@ fn fill_at_an_end(window: &mut [i16; 1632], samples: &[i16], granule: u64)
     }
 }
 
-/// Fills in the window of a granule: the 1632 samples from 1056 before its own first one on, 0 outside the samples.
+// Fills in the window of a granule: the 1632 samples from 1056 before its own first one on, 0 outside the samples.
 pub(crate) fn fill(window: &mut [i16; 1632], samples: &[i16], granule: u64)
     requires { granule ≤ 8589934592 }
     ensures { window.new ≡ window_of samples.now granule }

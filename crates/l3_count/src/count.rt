@@ -77,7 +77,7 @@ impl Count {
         }
     }
 
-    /// The count at a gain of quantised values that are known by their absolute values cut at 15 and by the greatest one of each band.
+    // The count at a gain of quantised values that are known by their absolute values cut at 15 and by the greatest one of each band.
     pub(crate) fn of_cut(cut: &[u8; 576], peaks: &[u16; 22], rate: SampleRate, gain: u8) -> Count
         requires { (q : List ℤ) × AreCutOf (edges_at (hertz_index_of rate)) q cut.now peaks.now }
         ensures { (q : List ℤ) → AreCutOf (edges_at (hertz_index_of rate)) q cut.now peaks.now → result ≡ counted (edges_at (hertz_index_of rate)) gain q }

@@ -10,7 +10,7 @@ use l3_base::{SampleRate, Spectrum, Steps};
 use l3_quant::{band_peaks, cut_values, line_peaks};
 use std::sync::ledger::Ledger;
 
-/// Room for 576 absolute values.
+// Room for 576 absolute values.
 #[inline(always)]
 fn no_values() -> [u8; 576]
     ensures { result ≡ replicate 576 0 }
@@ -18,7 +18,7 @@ fn no_values() -> [u8; 576]
     [0; 576]
 }
 
-/// Room for the peaks of 22 bands.
+// Room for the peaks of 22 bands.
 #[inline(always)]
 fn no_peaks() -> [u16; 22]
     ensures { result ≡ replicate 22 0 }

@@ -23,7 +23,7 @@ impl Model for Memo {
     ghost invariant = { λ m. IsMemo m.counts };
 }
 
-/// No count for any gain.
+// No count for any gain.
 #[inline(always)]
 fn none() -> [Option<Count>; 256]
     ensures { result ≡ no_counts }

@@ -6,7 +6,7 @@ ghost use Rattle.l3_energy.specs.Demand.{energy_of_line, lines_of_band, energy_o
 
 use l3_tables::edge;
 
-/// What a line counts for.
+// What a line counts for.
 #[inline(always)]
 fn line_energy(x: i32) -> u64
     requires { IsLine x }
@@ -17,7 +17,7 @@ fn line_energy(x: i32) -> u64
     size * size
 }
 
-/// What the lines of a band count for.
+// What the lines of a band count for.
 fn sum_of_energies(lines: &[i32]) -> u64
     requires small { All IsLine lines.now }
     requires long { length lines.now ≤ 576 }
@@ -31,7 +31,7 @@ fn sum_of_energies(lines: &[i32]) -> u64
     sum
 }
 
-/// The lines of a band at a sampling frequency, numbered as `sampling_frequency`.
+// The lines of a band at a sampling frequency, numbered as `sampling_frequency`.
 fn band_lines(lines: &[i32; 576], rate: usize, band: usize) -> &[i32]
     requires spectrum { IsSpectrum lines.now }
     requires rate { rate < 3 }
@@ -47,7 +47,7 @@ fn band_lines(lines: &[i32; 576], rate: usize, band: usize) -> &[i32]
     &lines[start..end]
 }
 
-/// The energy of a band.
+// The energy of a band.
 pub(crate) fn band_energy(lines: &[i32; 576], rate: usize, band: usize) -> u64
     requires spectrum { IsSpectrum lines.now }
     requires rate { rate < 3 }
@@ -57,7 +57,7 @@ pub(crate) fn band_energy(lines: &[i32; 576], rate: usize, band: usize) -> u64
     sum_of_energies(band_lines(lines, rate, band))
 }
 
-/// How many binary digits a number has.
+// How many binary digits a number has.
 fn digits(n: u64) -> u32
     ensures value { result ≡ binary_digits n }
     ensures bound { n < 2 ^ 42 → result ≤ 42 }
@@ -65,7 +65,7 @@ fn digits(n: u64) -> u32
     64 - n.leading_zeros()
 }
 
-/// What a band demands, in eighths of a bit.
+// What a band demands, in eighths of a bit.
 pub(crate) fn band_eighths(lines: &[i32; 576], rate: usize, band: usize) -> u32
     requires spectrum { IsSpectrum lines.now }
     requires rate { rate < 3 }

@@ -12,7 +12,7 @@ use l3_bits::put_bits;
 use l3_huff::{Code, QuadTable, pair_code, quad_code};
 use l3_stream::{ChosenFrame, Unit};
 
-/// Lays the codes of a coded frame over the bits from bit `at` on, granule by granule.
+// Lays the codes of a coded frame over the bits from bit `at` on, granule by granule.
 pub(crate) fn write_codes(settings: &Settings, frame: &ChosenFrame, out: &mut [u8], at: u64)
     requires coded { IsCoded settings.now frame.now }
     requires within { at + length (code_bits settings.now frame.now) ≤ 8 * length out.old }
@@ -24,7 +24,7 @@ pub(crate) fn write_codes(settings: &Settings, frame: &ChosenFrame, out: &mut [u
     write_granule(settings, &frame.units[1], out, middle);
 }
 
-/// Lays the codes of a granule's units, and answers with the place behind them.
+// Lays the codes of a granule's units, and answers with the place behind them.
 fn write_granule(settings: &Settings, units: &[Unit; 2], out: &mut [u8], at: u64) -> u64
     requires coded { IsCodedGranule settings.now settings.now.channels units.now }
     requires within { at + length (granule_bits settings.now settings.now.channels units.now) ≤ 8 * length out.old }
@@ -41,7 +41,7 @@ fn write_granule(settings: &Settings, units: &[Unit; 2], out: &mut [u8], at: u64
     }
 }
 
-/// The bits of the codes of a coded frame.
+// The bits of the codes of a coded frame.
 pub(crate) fn code_length(settings: &Settings, frame: &ChosenFrame) -> u64
     requires { IsCoded settings.now frame.now }
     ensures value { result ≡ length (code_bits settings.now frame.now) }
@@ -50,7 +50,7 @@ pub(crate) fn code_length(settings: &Settings, frame: &ChosenFrame) -> u64
     granule_length(settings, &frame.units[0]) + granule_length(settings, &frame.units[1])
 }
 
-/// The bits of the codes of a granule. In mono the second unit has none.
+// The bits of the codes of a granule. In mono the second unit has none.
 fn granule_length(settings: &Settings, units: &[Unit; 2]) -> u64
     requires { IsCodedGranule settings.now settings.now.channels units.now }
     ensures value { result ≡ length (granule_bits settings.now settings.now.channels units.now) }
@@ -59,7 +59,7 @@ fn granule_length(settings: &Settings, units: &[Unit; 2]) -> u64
     u64::from(units[0].length) + u64::from(units[1].length)
 }
 
-/// Lays the codes of a unit, and answers with the place behind them.
+// Lays the codes of a unit, and answers with the place behind them.
 fn write_unit(settings: &Settings, unit: &Unit, out: &mut [u8], at: u64) -> u64
     requires coded { IsCodedUnit settings.now unit.now }
     requires within { at + length (unit_bits settings.now unit.now) ≤ 8 * length out.old }
@@ -71,7 +71,7 @@ fn write_unit(settings: &Settings, unit: &Unit, out: &mut [u8], at: u64) -> u64
     write_quads(unit.quad, unit.quads, quad_lines(unit), out, middle)
 }
 
-/// The lines of the pairs.
+// The lines of the pairs.
 fn pair_lines(unit: &Unit) -> &[i16]
     requires { 2 * unit.now.big + 4 * unit.now.quads ≤ 576 }
     ensures value { result.now ≡ pairs_of unit.now }
@@ -80,7 +80,7 @@ fn pair_lines(unit: &Unit) -> &[i16]
     &unit.lines[..2 * usize::from(unit.big)]
 }
 
-/// The lines of the quadruples.
+// The lines of the quadruples.
 fn quad_lines(unit: &Unit) -> &[i16]
     requires { 2 * unit.now.big + 4 * unit.now.quads ≤ 576 }
     ensures value { result.now ≡ quads_of unit.now }
@@ -90,7 +90,7 @@ fn quad_lines(unit: &Unit) -> &[i16]
     &unit.lines[start..start + 4 * usize::from(unit.quads)]
 }
 
-/// Lays the codes of a unit's pairs, and answers with the place behind them. `lines` are those of the pairs.
+// Lays the codes of a unit's pairs, and answers with the place behind them. `lines` are those of the pairs.
 fn write_pairs(settings: &Settings, unit: &Unit, lines: &[i16], out: &mut [u8], at: u64) -> u64
     requires fields { HasFields unit.now }
     requires held { PairsHold (table_at settings.now unit.now) 0 lines.now }
@@ -109,7 +109,7 @@ fn write_pairs(settings: &Settings, unit: &Unit, lines: &[i16], out: &mut [u8], 
     place
 }
 
-/// Lays the codes of so many quadruples, and answers with the place behind them. `lines` are those of the quadruples.
+// Lays the codes of so many quadruples, and answers with the place behind them. `lines` are those of the quadruples.
 fn write_quads(table: QuadTable, count: u16, lines: &[i16], out: &mut [u8], at: u64) -> u64
     requires held { QuadsHold lines.now }
     requires whole { length lines.now ≡ 4 * count }
@@ -132,7 +132,7 @@ fn write_quads(table: QuadTable, count: u16, lines: &[i16], out: &mut [u8], at: 
     place
 }
 
-/// Lays one code, and answers with the place behind it.
+// Lays one code, and answers with the place behind it.
 fn write_code(code: Code, out: &mut [u8], at: u64) -> u64
     requires short { code.length ≤ 64 }
     requires within { at + code.length ≤ 8 * length out.old }
@@ -144,7 +144,7 @@ fn write_code(code: Code, out: &mut [u8], at: u64) -> u64
     at + u64::from(code.length)
 }
 
-/// `table_select` of the pair that begins at a line.
+// `table_select` of the pair that begins at a line.
 fn table_of(settings: &Settings, unit: &Unit, line: usize) -> u8
     requires { HasFields unit.now }
     ensures { result ≡ table_at settings.now unit.now line }
@@ -155,7 +155,7 @@ fn table_of(settings: &Settings, unit: &Unit, line: usize) -> u8
     unit.tables[region_of(line, first, second)]
 }
 
-/// The region of a line, where the regions 1 and 2 begin at these lines.
+// The region of a line, where the regions 1 and 2 begin at these lines.
 fn region_of(line: usize, first: usize, second: usize) -> usize
     ensures value { result ≡ (if nat_lt line first then 0 else if nat_lt line second then 1 else 2) }
     ensures within { result ≤ 2 }
@@ -169,7 +169,7 @@ fn region_of(line: usize, first: usize, second: usize) -> usize
     }
 }
 
-/// The first line of a scale factor band.
+// The first line of a scale factor band.
 fn first_line(settings: &Settings, band: usize) -> usize
     requires { band ≤ 22 }
     ensures { result ≡ edge settings.now band }

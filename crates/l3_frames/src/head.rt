@@ -10,13 +10,13 @@ use l3_side::{write_header, write_side};
 use l3_stream::ChosenFrame;
 use std::marker::Model;
 
-/// Bytes of header and side information in stereo; mono has fewer.
+// Bytes of header and side information in stereo; mono has fewer.
 const HEAD_LIMIT: usize = 36;
 
-/// Bytes of a header.
+// Bytes of a header.
 const HEADER_BYTES: usize = 4;
 
-/// Header and side information of a frame.
+// Header and side information of a frame.
 #[derive(Drop)]
 pub(crate) struct Head {
     bytes: [u8; HEAD_LIMIT],
@@ -45,7 +45,7 @@ impl Default for Head {
 }
 
 impl Head {
-    /// The head of a coded frame, by its number.
+    // The head of a coded frame, by its number.
     pub(crate) fn of(settings: &Settings, number: u64, frame: &ChosenFrame) -> Head
         requires number { number ≤ 2 ^ 32 }
         requires coded { IsCoded settings.now frame.now }
@@ -64,7 +64,7 @@ impl Head {
     }
 }
 
-/// A header, and so many bytes of side information.
+// A header, and so many bytes of side information.
 fn joined(header: &[u8], side: &[u8], size: usize) -> Head
     requires header { length header.now ≡ 4 }
     requires side { length side.now ≡ 32 }

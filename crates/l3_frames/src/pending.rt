@@ -15,14 +15,14 @@ use l3_base::{Settings, WriteFault};
 use l3_io::{Sink, write_all};
 use l3_stream::ChosenFrame;
 
-/// The greatest `main_data_begin`: the field has 9 bits (ISO/IEC 11172-3, 2.4).
+// The greatest `main_data_begin`: the field has 9 bits (ISO/IEC 11172-3, 2.4).
 pub(crate) const BEGIN_LIMIT: u16 = 511;
 
-/// Frames that are pushed and not given.
+// Frames that are pushed and not given.
 #[derive(Drop)]
 pub(crate) struct Pending {
     pub(crate) settings: Settings,
-    /// How many frames were pushed, the slot bytes of these, and the tape bit behind their codes.
+    // How many frames were pushed, the slot bytes of these, and the tape bit behind their codes.
     pub(crate) frames: u64,
     pub(crate) before: u64,
     pub(crate) end: u64,
@@ -30,7 +30,7 @@ pub(crate) struct Pending {
     pub(crate) slots: Slots,
 }
 
-/// Before the first frame.
+// Before the first frame.
 pub(crate) fn nothing_pending(settings: Settings) -> Pending
     ensures settings { result.settings ≡ settings }
     ensures frames { (result.frames ≡ 0) × (result.before ≡ 0) × (result.end ≡ 0) }
@@ -47,7 +47,7 @@ pub(crate) fn nothing_pending(settings: Settings) -> Pending
     }
 }
 
-/// Notes a frame that fits: its head, its slot, and its codes over the bits from where its main data begins.
+// Notes a frame that fits: its head, its slot, and its codes over the bits from where its main data begins.
 pub(crate) fn note(pending: &mut Pending, frame: &ChosenFrame)
     requires kept { IsKept pending.old }
     requires short { IsShort (writing_of pending.old false) }
@@ -69,8 +69,8 @@ pub(crate) fn note(pending: &mut Pending, frame: &ChosenFrame)
     pending.frames += 1;
 }
 
-/// How many of `count` frames from frame `first` on are settled, and their slot bytes: no later frame's main data reaches into these.
-/// `length` are the slot bytes of all.
+// How many of `count` frames from frame `first` on are settled, and their slot bytes: no later frame's main data reaches into these.
+// `length` are the slot bytes of all.
 fn settled(settings: &Settings, first: u64, count: usize, length: usize) -> (usize, usize)
     requires numbers { first + count ≤ 2 ^ 32 + 1 }
     requires slots { slots_before settings.now first + length ≡ slots_before settings.now (first + count) }
@@ -89,7 +89,7 @@ fn settled(settings: &Settings, first: u64, count: usize, length: usize) -> (usi
     (count, bytes)
 }
 
-/// Gives frames from frame `first` on, each with its slot, which is cut from the tape's bytes.
+// Gives frames from frame `first` on, each with its slot, which is cut from the tape's bytes.
 pub(crate) fn give<K: Sink>(
     settings: &Settings,
     first: u64,
@@ -112,7 +112,7 @@ pub(crate) fn give<K: Sink>(
     Ok(())
 }
 
-/// Gives a head, and the slot behind it.
+// Gives a head, and the slot behind it.
 fn give_frame<K: Sink>(head: &[u8], slot: &[u8], sink: &mut K) -> Result<(), WriteFault>
     ensures bytes { Writes (K.taken sink.old) (K.taken sink.new) result (head.now ++ slot.now) }
     ensures cause { HasCause (K.faults sink.old) (K.faults sink.new) result }
@@ -121,7 +121,7 @@ fn give_frame<K: Sink>(head: &[u8], slot: &[u8], sink: &mut K) -> Result<(), Wri
     write_all(sink, slot)
 }
 
-/// Forgets the first heads.
+// Forgets the first heads.
 fn forget(heads: &mut ArrayVec<Head, 12>, count: usize)
     requires { count ≤ length heads.old.items }
     ensures { heads.new.items ≡ drop count heads.old.items }
@@ -131,7 +131,7 @@ fn forget(heads: &mut ArrayVec<Head, 12>, count: usize)
     }
 }
 
-/// Gives the frames that are settled, and forgets them, also where a write fails.
+// Gives the frames that are settled, and forgets them, also where a write fails.
 pub(crate) fn give_settled<K: Sink>(pending: &mut Pending, sink: &mut K) -> Result<(), WriteFault>
     requires kept { IsKept pending.old }
     ensures ok { OnOk result (Gives (K.taken sink.old) (K.taken sink.new) (writing_of pending.old false) (writing_of pending.new false)) }

@@ -10,10 +10,10 @@ use l3_base::Settings;
 use l3_stream::ChosenFrame;
 use std::marker::Model;
 
-/// Bytes that may be there at once: 510, and the slots of the oldest and of the newest frame, each of at most 1420.
+// Bytes that may be there at once: 510, and the slots of the oldest and of the newest frame, each of at most 1420.
 pub(crate) const SLOTS_LIMIT: usize = 510 + 2 * 1420;
 
-/// The bytes of the tape from a slot on.
+// The bytes of the tape from a slot on.
 #[derive(Drop)]
 pub(crate) struct Slots {
     bytes: [u8; SLOTS_LIMIT],
@@ -53,7 +53,7 @@ impl Slots {
         &self.bytes[..self.length]
     }
 
-    /// Appends a slot whose bits are 0.
+    // Appends a slot whose bits are 0.
     pub(crate) fn append(&mut self, count: usize)
         requires { length self.old + count ≤ SLOTS_LIMIT }
         ensures { self.new ≡ self.old ++ replicate count 0 }
@@ -62,7 +62,7 @@ impl Slots {
         self.length += count;
     }
 
-    /// Lays the codes of a frame over the bits from bit `at` on.
+    // Lays the codes of a frame over the bits from bit `at` on.
     pub(crate) fn lay(&mut self, settings: &Settings, frame: &ChosenFrame, at: u64)
         requires coded { IsCoded settings.now frame.now }
         requires within { at + length (code_bits settings.now frame.now) ≤ 8 * length self.old }
@@ -72,7 +72,7 @@ impl Slots {
         write_codes(settings, frame, &mut self.bytes[..self.length], at);
     }
 
-    /// Forgets the first bytes.
+    // Forgets the first bytes.
     pub(crate) fn forget(&mut self, count: usize)
         requires { count ≤ length self.old }
         ensures { self.new ≡ drop count self.old }

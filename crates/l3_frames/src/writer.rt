@@ -102,7 +102,7 @@ impl FrameWriter {
     }
 }
 
-/// Whether the frame fits behind those that were pushed.
+// Whether the frame fits behind those that were pushed.
 fn fits_behind(pending: &Pending, frame: &ChosenFrame) -> bool
     requires kept { IsKept pending.now }
     requires count { pending.now.frames ≤ 2 ^ 32 }
@@ -119,7 +119,7 @@ fn fits_behind(pending: &Pending, frame: &ChosenFrame) -> bool
     before <= start && start + code_length(&pending.settings, frame) <= 8 * (pending.before + slot)
 }
 
-/// Gives all frames that are pending.
+// Gives all frames that are pending.
 fn give_all<K: Sink>(pending: &Pending, sink: &mut K) -> Result<(), WriteFault>
     requires { IsKept pending.now }
     ensures bytes { Writes (K.taken sink.old) (K.taken sink.new) result (owed (writing_of pending.now false) []) }

@@ -9,7 +9,7 @@ pub struct Code {
 }
 
 impl Code {
-    /// The code, and after it the low `length` binary digits of `value`.
+    // The code, and after it the low `length` binary digits of `value`.
     pub(crate) fn followed_by(self, value: u64, length: u8) -> Code
         requires code { self.value < 2 ^ self.length }
         requires value { value < 2 ^ length }

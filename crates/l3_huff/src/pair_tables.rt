@@ -9,26 +9,26 @@ ghost use Rattle.l3_huff.specs.Tables.{width_at, linbits_at, first_at, length_at
 /// Tables 24 to 31 have the codes of this table, and differ in their linbits.
 pub const SHARED: u8 = 24;
 
-/// How many rows and columns the tables 0 to 24 have; 0 where the profile has no such table.
+// How many rows and columns the tables 0 to 24 have; 0 where the profile has no such table.
 #[rattlefmt::skip]
 static WIDTHS: [u8; 25] = [
     1, 2, 3, 3, 0, 4, 4, 6, 6, 6, 8, 8, 8, 0, 0, 0, 0, 0, 0, 0, 0, 0, 0, 0, 16,
 ];
 
-/// Where the entries of the tables 0 to 24 begin.
+// Where the entries of the tables 0 to 24 begin.
 #[rattlefmt::skip]
 static FIRSTS: [u16; 25] = [
     0, 1, 5, 14, 0, 23, 39, 55, 91, 127, 163, 227, 291, 0, 0, 0, 0, 0, 0, 0, 0, 0, 0, 0, 355,
 ];
 
-/// How many linbits the tables 0 to 31 have.
+// How many linbits the tables 0 to 31 have.
 #[rattlefmt::skip]
 static LINBITS: [u8; 32] = [
     0, 0, 0, 0, 0, 0, 0, 0, 0, 0, 0, 0, 0, 0, 0, 0, 0, 0, 0, 0, 0, 0, 0, 0,
     4, 5, 6, 7, 8, 9, 11, 13,
 ];
 
-/// The lengths of the codes, in bits, without linbits and signs.
+// The lengths of the codes, in bits, without linbits and signs.
 #[rattlefmt::skip]
 static LENGTHS: [u8; 611] = [
     // table 0: value 0 alone, without bits
@@ -121,7 +121,7 @@ static LENGTHS: [u8; 611] = [
      8,  7,  7,  7,  7,  7,  7,  7,  7,  7,  7,  8,  8,  8,  8,  4,
 ];
 
-/// The codes as numbers of so many bits, the first bit being the most significant.
+// The codes as numbers of so many bits, the first bit being the most significant.
 #[rattlefmt::skip]
 static VALUES: [u16; 611] = [
     // table 0: value 0 alone, without bits

@@ -5,19 +5,19 @@
 ghost use Rattle.std.specs.Prelude.{◌≡◌, ◌<◌};
 ghost use Rattle.l3_huff.specs.Words.{quad_length_at, quad_value_at, quad_word_at};
 
-/// The lengths of the codes of table A, in bits, without signs.
+// The lengths of the codes of table A, in bits, without signs.
 #[rattlefmt::skip]
 static QUAD_LENGTHS: [u8; 16] = [
     1, 4, 4, 5, 4, 6, 5, 6, 4, 5, 5, 6, 5, 6, 6, 6,
 ];
 
-/// The codes of table A as numbers of so many bits, the first bit being the most significant.
+// The codes of table A as numbers of so many bits, the first bit being the most significant.
 #[rattlefmt::skip]
 static QUAD_VALUES: [u8; 16] = [
     1, 5, 4, 5, 6, 5, 4, 4, 7, 3, 6, 0, 7, 2, 3, 1,
 ];
 
-/// The index whose code in table A begins each word of 6 bits.
+// The index whose code in table A begins each word of 6 bits.
 #[rattlefmt::skip]
 static QUAD_WORDS: [u8; 64] = [
     11, 15, 13, 14,  7,  5,  9,  9,  6,  6,  3,  3, 10, 10, 12, 12,

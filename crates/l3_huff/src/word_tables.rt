@@ -6,19 +6,19 @@
 ghost use Rattle.std.specs.Prelude.{◌≡◌, ◌<◌};
 ghost use Rattle.l3_huff.specs.Words.{longest_at, first_word_at, cell_at};
 
-/// The longest code of the tables 0 to 24, in bits.
+// The longest code of the tables 0 to 24, in bits.
 #[rattlefmt::skip]
 static LONGEST: [u8; 25] = [
     0, 3, 6, 6, 0, 8, 7, 10, 11, 9, 11, 11, 10, 0, 0, 0, 0, 0, 0, 0, 0, 0, 0, 0, 12,
 ];
 
-/// Where the words of the tables 0 to 24 begin.
+// Where the words of the tables 0 to 24 begin.
 #[rattlefmt::skip]
 static FIRST_WORDS: [u16; 25] = [
     0, 1, 9, 73, 0, 137, 393, 521, 1545, 3593, 4105, 6153, 8201, 0, 0, 0, 0, 0, 0, 0, 0, 0, 0, 0, 9225,
 ];
 
-/// The code that begins each word.
+// The code that begins each word.
 #[rattlefmt::skip]
 static CELLS: [u8; 13321] = [
     // table 0: by no bits

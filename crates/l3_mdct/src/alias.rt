@@ -8,7 +8,7 @@ use crate::rounding::{product, rounded};
 use l3_base::Spectrum;
 use l3_tables::{ca, cs};
 
-/// The lower end of butterfly `k` of `a` below and `b` above the border.
+// The lower end of butterfly `k` of `a` below and `b` above the border.
 #[inline(always)]
 fn lower(k: usize, a: i32, b: i32) -> i32
     requires butterfly { k < 8 }
@@ -22,7 +22,7 @@ fn lower(k: usize, a: i32, b: i32) -> i32
     rounded(below + above)
 }
 
-/// The upper end of butterfly `k` of `a` below and `b` above the border.
+// The upper end of butterfly `k` of `a` below and `b` above the border.
 #[inline(always)]
 fn upper(k: usize, a: i32, b: i32) -> i32
     requires butterfly { k < 8 }
@@ -36,7 +36,7 @@ fn upper(k: usize, a: i32, b: i32) -> i32
     rounded(above - below)
 }
 
-/// Butterfly `k` about the lower end of subband `border`.
+// Butterfly `k` about the lower end of subband `border`.
 #[inline(always)]
 fn butterfly(out: &mut Spectrum, border: usize, k: usize)
     requires border { 0 < border }
@@ -53,7 +53,7 @@ fn butterfly(out: &mut Spectrum, border: usize, k: usize)
     out.set(18 * border + k, upper(k, below, above));
 }
 
-/// The eight butterflies about the lower end of subband `border`.
+// The eight butterflies about the lower end of subband `border`.
 #[inline(always)]
 fn butterflies(out: &mut Spectrum, border: usize)
     requires border { 0 < border }
@@ -71,7 +71,7 @@ fn butterflies(out: &mut Spectrum, border: usize)
     }
 }
 
-/// The lines after the alias reduction.
+// The lines after the alias reduction.
 pub(crate) fn reduce(out: &mut Spectrum)
     requires long { length out.old ≡ 576 }
     requires small { (n : ℕ) → n < 576 → IsWithin 178392064 (entry out.old n) }

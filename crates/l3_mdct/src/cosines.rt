@@ -3,9 +3,9 @@ ghost use Rattle.l3_tables.specs.Sums.{IsWithin};
 ghost use Rattle.l3_tables.specs.Cosines.{cosine72};
 ghost use Rattle.l3_mdct.specs.Fold.{folded_cosine};
 
-/// The window of a long block, times 2^15: slot k has the cosine of 35 - 2 k steps, 72 to the half circle.
-///
-/// The sine window of ISO/IEC 11172-3, 2.4, from this project's table [`l3_tables::K72`].
+// The window of a long block, times 2^15: slot k has the cosine of 35 - 2 k steps, 72 to the half circle.
+//
+// The sine window of ISO/IEC 11172-3, 2.4, from this project's table [`l3_tables::K72`].
 #[rattlefmt::skip]
 static LONG_WINDOW: [i32; 36] = [
     1429, 4277, 7092, 9854, 12540, 15131, 17606, 19948, 22138,
@@ -14,10 +14,10 @@ static LONG_WINDOW: [i32; 36] = [
     22138, 19948, 17606, 15131, 12540, 9854, 7092, 4277, 1429,
 ];
 
-/// What each of the 18 folded slots counts for in each of the 18 lines of a subband, times 2^15.
-///
-/// Row m is that of line m: of folded slots 0 to 8 the cosines of (2 k + 19)(2 m + 1) steps, and of 9 to 17 those of
-/// (2 (k + 9) + 19)(2 m + 1) steps, 72 to the half circle. From this project's table [`l3_tables::K72`].
+// What each of the 18 folded slots counts for in each of the 18 lines of a subband, times 2^15.
+//
+// Row m is that of line m: of folded slots 0 to 8 the cosines of (2 k + 19)(2 m + 1) steps, and of 9 to 17 those of
+// (2 (k + 9) + 19)(2 m + 1) steps, 72 to the half circle. From this project's table [`l3_tables::K72`].
 #[rattlefmt::skip]
 static FOLDED_COSINES: [[i32; 18]; 18] = [
     [
@@ -94,7 +94,7 @@ static FOLDED_COSINES: [[i32; 18]; 18] = [
     ],
 ];
 
-/// The window at slot `k`, of 36.
+// The window at slot `k`, of 36.
 #[inline(always)]
 pub(crate) fn window(k: usize) -> i32
     requires { k < 36 }
@@ -104,7 +104,7 @@ pub(crate) fn window(k: usize) -> i32
     LONG_WINDOW[k]
 }
 
-/// What folded slot `k` counts for in line `m`, both of 18.
+// What folded slot `k` counts for in line `m`, both of 18.
 #[inline(always)]
 pub(crate) fn cosine(m: usize, k: usize) -> i32
     requires line { m < 18 }

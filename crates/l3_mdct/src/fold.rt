@@ -3,7 +3,7 @@ ghost use Rattle.l3_tables.specs.Lists.{entry};
 ghost use Rattle.l3_tables.specs.Sums.{IsWithin};
 ghost use Rattle.l3_mdct.specs.Fold.{folded};
 
-/// Folds the 36 windowed slots of a subband to 18.
+// Folds the 36 windowed slots of a subband to 18.
 #[inline(always)]
 pub(crate) fn fold36(z: &[i32; 36]) -> [i32; 18]
     requires { (k : ℕ) → k < 36 → IsWithin 44598016 (entry z.now k) }

@@ -11,7 +11,7 @@ use crate::rounding::{ninth, product, rounded};
 use l3_base::{Slots36, Spectrum};
 use l3_tables::add_product;
 
-/// The 36 slots of a subband under the window of a long block.
+// The 36 slots of a subband under the window of a long block.
 #[inline(always)]
 fn windowed_slots(slots: &Slots36, band: usize) -> [i32; 36]
     requires place { band < 32 }
@@ -27,7 +27,7 @@ fn windowed_slots(slots: &Slots36, band: usize) -> [i32; 36]
     z
 }
 
-/// The sum of line `m` out of the folded slots of its subband.
+// The sum of line `m` out of the folded slots of its subband.
 #[inline(always)]
 fn line_sum(f: &[i32; 18], m: usize) -> i64
     requires line { m < 18 }
@@ -42,7 +42,7 @@ fn line_sum(f: &[i32; 18], m: usize) -> i64
     sum
 }
 
-/// The sums of the 18 lines.
+// The sums of the 18 lines.
 #[inline(always)]
 fn line_sums(f: &[i32; 18], sums: &mut [i64; 18])
     requires { (k : ℕ) → k < 18 → IsWithin 89196032 (entry f.now k) }
@@ -54,7 +54,7 @@ fn line_sums(f: &[i32; 18], sums: &mut [i64; 18])
     }
 }
 
-/// Sets the 18 lines of a subband: a ninth of each sum.
+// Sets the 18 lines of a subband: a ninth of each sum.
 #[inline(always)]
 fn set_lines(out: &mut Spectrum, band: usize, sums: &[i64; 18])
     requires place { band < 32 }
@@ -69,7 +69,7 @@ fn set_lines(out: &mut Spectrum, band: usize, sums: &[i64; 18])
     }
 }
 
-/// The 18 lines of a subband out of its 36 slots.
+// The 18 lines of a subband out of its 36 slots.
 #[inline(always)]
 fn transform_subband(slots: &Slots36, band: usize, out: &mut Spectrum)
     requires place { band < 32 }
@@ -86,7 +86,7 @@ fn transform_subband(slots: &Slots36, band: usize, out: &mut Spectrum)
     set_lines(out, band, &sums);
 }
 
-/// The 576 lines before the alias reduction.
+// The 576 lines before the alias reduction.
 pub(crate) fn transform(slots: &Slots36, out: &mut Spectrum)
     requires { All (All (IsWithin 44598016)) slots.now }
     ensures long { length out.new ≡ 576 }

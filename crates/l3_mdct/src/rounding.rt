@@ -1,7 +1,7 @@
 ghost use Rattle.std.specs.Prelude.{◌≡◌, ◌*◌, ◌≤◌, ◌^◌, ◌+ℤ◌, ◌*ℤ◌, pos, unsigned_abs};
 ghost use Rattle.l3_tables.specs.Sums.{floor_div, IsWithin};
 
-/// The product of a line or a slot and a coefficient.
+// The product of a line or a slot and a coefficient.
 #[inline(always)]
 pub(crate) fn product(x: i32, coefficient: i32) -> i64
     ensures value { result ≡ x *ℤ coefficient }
@@ -10,7 +10,7 @@ pub(crate) fn product(x: i32, coefficient: i32) -> i64
     i64::from(x) * i64::from(coefficient)
 }
 
-/// A sum in units of 2^-15, to the nearest whole number.
+// A sum in units of 2^-15, to the nearest whole number.
 #[inline(always)]
 pub(crate) fn rounded(sum: i64) -> i32
     requires { IsWithin (2 ^ 43) sum }
@@ -19,9 +19,9 @@ pub(crate) fn rounded(sum: i64) -> i32
     ((sum + (1 << 14)) >> 15) as i32
 }
 
-/// A ninth of a sum in units of 2^-15, to the nearest whole number.
-///
-/// It is raised by 2^28 and brought down again: a division without signs has no branch.
+// A ninth of a sum in units of 2^-15, to the nearest whole number.
+//
+// It is raised by 2^28 and brought down again: a division without signs has no branch.
 #[inline(always)]
 pub(crate) fn ninth(sum: i64) -> i32
     requires { IsWithin (18 * (89196032 * 2 ^ 15)) sum }

@@ -5,9 +5,9 @@ ghost use Rattle.l3_tables.specs.Cosines.{cosine64};
 ghost use Rattle.l3_tables.specs.Sums.{IsWithin};
 ghost use Rattle.l3_tables.specs.Window.{window_at};
 
-/// The window's 512 entries for samples in order of time: that of the newest sample stands last.
-///
-/// They have 64 bits each, so that two of them are loaded at once as the factors of two 64-bit products.
+// The window's 512 entries for samples in order of time: that of the newest sample stands last.
+//
+// They have 64 bits each, so that two of them are loaded at once as the factors of two 64-bit products.
 #[rattlefmt::skip]
 static WINDOW_IN_TIME: [i64; 512] = [
     1, 1, 1, 1, 1, 1, 2, 2,
@@ -76,7 +76,7 @@ static WINDOW_IN_TIME: [i64; 512] = [
     -2, -1, -1, -1, -1, -1, -1, 0,
 ];
 
-/// A row for each of the lower 16 subbands: the cosines of its 32 folded columns, times 2^15.
+// A row for each of the lower 16 subbands: the cosines of its 32 folded columns, times 2^15.
 #[rattlefmt::skip]
 static COSINES: [[i32; 32]; 16] = [
     [
@@ -177,7 +177,7 @@ static COSINES: [[i32; 32]; 16] = [
     ],
 ];
 
-/// The window's entry for sample `n` of 512 in order of time.
+// The window's entry for sample `n` of 512 in order of time.
 #[inline(always)]
 pub(crate) fn window_in_time(n: usize) -> i32
     requires { n < 512 }
@@ -187,7 +187,7 @@ pub(crate) fn window_in_time(n: usize) -> i32
     WINDOW_IN_TIME[n] as i32
 }
 
-/// The cosine of folded column `j` for subband `i`.
+// The cosine of folded column `j` for subband `i`.
 #[inline(always)]
 pub(crate) fn cosine(i: usize, j: usize) -> i32
     requires subband { i < 16 }

@@ -6,7 +6,7 @@ ghost use Rattle.l3_polyphase.specs.Samples.{before_newest, column_in};
 use crate::coefficients::window_in_time;
 use l3_tables::add_product;
 
-/// The eight windowed samples of the column that stands at place `at`, from the last, added up.
+// The eight windowed samples of the column that stands at place `at`, from the last, added up.
 #[inline(always)]
 fn column(samples: &[i16], at: usize) -> i64
     requires column { at < 64 }
@@ -23,7 +23,7 @@ fn column(samples: &[i16], at: usize) -> i64
     sum
 }
 
-/// The 64 columns of 512 samples in order of time, the last column first: so samples and window are both read forward.
+// The 64 columns of 512 samples in order of time, the last column first: so samples and window are both read forward.
 pub(crate) fn columns(samples: &[i16]) -> [i64; 64]
     requires { length samples.now ≡ 512 }
     ensures value { (k : ℕ) → k < 64 → column_in result k ≡ column_sum (before_newest samples.now) k }

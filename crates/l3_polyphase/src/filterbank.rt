@@ -18,7 +18,7 @@ pub fn slot(window: &[i16; 512], out: &mut [i32; 32])
     subbands(&in_time(window), out);
 }
 
-/// 512 samples, the newest first, in order of time.
+// 512 samples, the newest first, in order of time.
 fn in_time(window: &[i16; 512]) -> [i16; 512]
     ensures value { (n : ℕ) → n < 512 → before_newest result n ≡ entry window.now n }
     ensures long { length result ≡ 512 }
@@ -45,7 +45,7 @@ pub fn slots36(window: &[i16; 1632], out: &mut Slots36)
     }
 }
 
-/// Sets slot `k` of each subband.
+// Sets slot `k` of each subband.
 fn set_slots(out: &mut Slots36, k: usize, slots: &[i32; 32])
     requires slot { k < 36 }
     requires shape { HasShape out.old }
@@ -59,7 +59,7 @@ fn set_slots(out: &mut Slots36, k: usize, slots: &[i32; 32])
     }
 }
 
-/// A slot with the other sign where its number and its subband are odd.
+// A slot with the other sign where its number and its subband are odd.
 #[inline(always)]
 fn turned_at(i: usize, k: usize, slot: i32) -> i32
     requires { IsWithin 44598016 slot }

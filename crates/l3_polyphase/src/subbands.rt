@@ -10,7 +10,7 @@ use crate::columns::columns;
 use crate::fold::fold64;
 use l3_tables::add_product;
 
-/// Every `step`-th folded column from `start`, `count` of them, each times its cosine for subband `i`, added up.
+// Every `step`-th folded column from `start`, `count` of them, each times its cosine for subband `i`, added up.
 #[inline(always)]
 fn part(columns: &[i64; 32], i: usize, start: usize, step: usize, count: usize) -> i64
     requires subband { i < 16 }
@@ -28,9 +28,9 @@ fn part(columns: &[i64; 32], i: usize, start: usize, step: usize, count: usize) 
     sum
 }
 
-/// The sums of the 16 even folded columns, for the lower 16 subbands.
-///
-/// They fold once more: subband 15 - i has the products of subband i, every other one with the other sign.
+// The sums of the 16 even folded columns, for the lower 16 subbands.
+//
+// They fold once more: subband 15 - i has the products of subband i, every other one with the other sign.
 fn even_sums(columns: &[i64; 32]) -> [i64; 16]
     requires { (j : ℕ) → j < 32 → IsWithin (2 ^ 36) (entry columns.now j) }
     ensures value { (i : ℕ) → i < 16 → entry result i ≡ part_sum 0 2 16 (entry columns.now) i }
@@ -46,7 +46,7 @@ fn even_sums(columns: &[i64; 32]) -> [i64; 16]
     sums
 }
 
-/// A sum over 2^27, to the nearest.
+// A sum over 2^27, to the nearest.
 #[inline(always)]
 fn rounded(sum: i64) -> i32
     requires { IsWithin (2 ^ 57) sum }
@@ -55,7 +55,7 @@ fn rounded(sum: i64) -> i32
     ((sum + (1 << 26)) >> 27) as i32
 }
 
-/// The slots of the 32 subbands of 32 folded columns: subband 31 - i has the products of subband i, the odd ones with the other sign.
+// The slots of the 32 subbands of 32 folded columns: subband 31 - i has the products of subband i, the odd ones with the other sign.
 fn slots_of_folded(columns: &[i64; 32], out: &mut [i32; 32])
     requires { (j : ℕ) → j < 32 → IsWithin (2 ^ 36) (entry columns.now j) }
     ensures long { length out.new ≡ 32 }
@@ -69,7 +69,7 @@ fn slots_of_folded(columns: &[i64; 32], out: &mut [i32; 32])
     }
 }
 
-/// The slots of the 32 subbands of 64 columns, the last one first.
+// The slots of the 32 subbands of 64 columns, the last one first.
 fn slots_of_columns(sums: &[i64; 64], out: &mut [i32; 32])
     requires small { (k : ℕ) → k < 64 → IsWithin (2 ^ 35) (column_in sums.now k) }
     ensures long { length out.new ≡ 32 }
@@ -80,7 +80,7 @@ fn slots_of_columns(sums: &[i64; 64], out: &mut [i32; 32])
     slots_of_folded(&folded, out);
 }
 
-/// The slots of the 32 subbands of 512 samples in order of time.
+// The slots of the 32 subbands of 512 samples in order of time.
 pub(crate) fn subbands(samples: &[i16], out: &mut [i32; 32])
     requires { length samples.now ≡ 512 }
     ensures value { out.new ≡ tabulate 32 (slot_sum (before_newest samples.now)) }

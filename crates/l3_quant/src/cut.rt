@@ -8,7 +8,7 @@ use crate::limits::limits;
 use crate::scale::steps;
 use l3_base::Spectrum;
 
-/// Room for 16 absolute values.
+// Room for 16 absolute values.
 #[inline(always)]
 fn no_sizes() -> [i32; 16]
     ensures { length result ≡ 16 }
@@ -16,7 +16,7 @@ fn no_sizes() -> [i32; 16]
     [0; 16]
 }
 
-/// No counts yet.
+// No counts yet.
 #[inline(always)]
 fn no_counts() -> [u32; 16]
     ensures { result ≡ replicate 16 0 }
@@ -24,7 +24,7 @@ fn no_counts() -> [u32; 16]
     [0; 16]
 }
 
-/// The absolute values of 16 lines.
+// The absolute values of 16 lines.
 #[inline(always)]
 fn sizes(lines: &[i32; 576], from: usize) -> [i32; 16]
     requires small { All IsLine lines.now }
@@ -39,7 +39,7 @@ fn sizes(lines: &[i32; 576], from: usize) -> [i32; 16]
     sizes
 }
 
-/// The counts with 1 more where the absolute value is above a limit.
+// The counts with 1 more where the absolute value is above a limit.
 #[inline(always)]
 fn with_limit(counts: &[u32; 16], sizes: &[i32; 16], limit: i32) -> [u32; 16]
     requires room { (j : ℕ) → j < 16 → slice_index counts.now j < 15 }
@@ -54,7 +54,7 @@ fn with_limit(counts: &[u32; 16], sizes: &[i32; 16], limit: i32) -> [u32; 16]
     more
 }
 
-/// How many of the limits each absolute value is above.
+// How many of the limits each absolute value is above.
 #[inline(always)]
 fn count_limits(sizes: &[i32; 16], limits: &[i32; 15]) -> [u32; 16]
     ensures long { length result ≡ 16 }
@@ -68,7 +68,7 @@ fn count_limits(sizes: &[i32; 16], limits: &[i32; 15]) -> [u32; 16]
     counts
 }
 
-/// Writes 16 counts.
+// Writes 16 counts.
 #[inline(always)]
 fn write_counts(counts: &[u32; 16], from: usize, out: &mut [u8; 576])
     requires within { from ≤ 560 }
@@ -83,7 +83,7 @@ fn write_counts(counts: &[u32; 16], from: usize, out: &mut [u8; 576])
     }
 }
 
-/// Counts the limits that the absolute value of each line is above.
+// Counts the limits that the absolute value of each line is above.
 fn cut_lines(lines: &[i32; 576], limits: &[i32; 15], out: &mut [u8; 576])
     requires small { All IsLine lines.now }
     ensures value { (h : ℕ) → AreLimits h limits.now → (i : ℕ) → i < 576 → slice_index out.new i ≡ min (magnitude_at (unsigned_abs (slice_index_or lines.now i (pos 0))) h) 15 }

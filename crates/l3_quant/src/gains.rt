@@ -6,7 +6,7 @@ ghost use Rattle.l3_quant.specs.Gains.{first_gain_of};
 use crate::quantiser::{GREATEST, cut_magnitude};
 use l3_base::Spectrum;
 
-/// The greatest absolute value among the lines.
+// The greatest absolute value among the lines.
 fn peak(lines: &[i32; 576]) -> u32
     requires { All IsLine lines.now }
     ensures small { result < 2 ^ 29 }
@@ -23,7 +23,7 @@ fn peak(lines: &[i32; 576]) -> u32
     peak
 }
 
-/// The least gain at which the absolute value can be coded, by halving: a line falls as the gain rises.
+// The least gain at which the absolute value can be coded, by halving: a line falls as the gain rises.
 fn least_gain(x: u32) -> u8
     requires { x < 2 ^ 29 }
     ensures coded { magnitude_at x (258 - result) ≤ 8191 }

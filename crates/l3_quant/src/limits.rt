@@ -28,10 +28,10 @@ pub static PRODUCTS: [[u64; 15]; 4] = [
     ],
 ];
 
-/// From so many doublings on each limit is 0.
+// From so many doublings on each limit is 0.
 const DOUBLINGS: u32 = 42;
 
-/// The entry of a row for the value `k + 1`.
+// The entry of a row for the value `k + 1`.
 #[inline(always)]
 fn product(r: usize, k: usize) -> u64
     requires row { r < 4 }
@@ -42,7 +42,7 @@ fn product(r: usize, k: usize) -> u64
     PRODUCTS[r][k]
 }
 
-/// The greatest absolute value of a line that is quantised to at most `k`, so many quarter steps below 258.
+// The greatest absolute value of a line that is quantised to at most `k`, so many quarter steps below 258.
 #[inline(always)]
 fn limit(k: usize, h: u32) -> i32
     requires value { k < 15 }
@@ -53,7 +53,7 @@ fn limit(k: usize, h: u32) -> i32
     whole.min(1 << 29) as i32
 }
 
-/// Room for 15 limits.
+// Room for 15 limits.
 #[inline(always)]
 fn no_limits() -> [i32; 15]
     ensures { length result ≡ 15 }
@@ -61,7 +61,7 @@ fn no_limits() -> [i32; 15]
     [0; 15]
 }
 
-/// The greatest absolute values of lines that are quantised to at most 0 to 14, so many quarter steps below 258.
+// The greatest absolute values of lines that are quantised to at most 0 to 14, so many quarter steps below 258.
 pub(crate) fn limits(h: u32) -> [i32; 15]
     requires { h ≤ 322 }
     ensures long { length result ≡ 15 }

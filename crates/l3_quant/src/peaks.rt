@@ -13,7 +13,7 @@ use crate::scale::steps;
 use l3_base::{SampleRate, Spectrum};
 use l3_tables::edge;
 
-/// The greatest absolute value.
+// The greatest absolute value.
 #[inline(always)]
 fn peak(lines: &[i32]) -> u32
     requires { All IsLine lines.now }
@@ -27,7 +27,7 @@ fn peak(lines: &[i32]) -> u32
     peak
 }
 
-/// The greatest absolute value of the lines of a band.
+// The greatest absolute value of the lines of a band.
 fn band_peak(lines: &[i32; 576], rate: usize, band: usize) -> u32
     requires small { All IsLine lines.now }
     requires rate { rate < 3 }
@@ -40,7 +40,7 @@ fn band_peak(lines: &[i32; 576], rate: usize, band: usize) -> u32
     peak(&lines[from..to])
 }
 
-/// Room for the peaks of 22 bands.
+// Room for the peaks of 22 bands.
 #[inline(always)]
 fn no_peaks() -> [u32; 22]
     ensures { result ≡ replicate 22 0 }

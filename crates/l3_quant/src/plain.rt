@@ -5,7 +5,7 @@ ghost use Rattle.l3_quant.specs.Quantiser.{greatest_reached, magnitude};
 use crate::quantiser::GREATEST;
 use crate::scale::{scaled_line, steps};
 
-/// What the third power of a number that reaches `n` is at least.
+// What the third power of a number that reaches `n` is at least.
 fn fourth_power(n: u32) -> u128
     requires above { 0 < n }
     requires below { n ≤ 16384 }
@@ -23,7 +23,7 @@ fn third_power(y: u32) -> u128
     y * y * y
 }
 
-/// The greatest value that `y` reaches, by halving among all values.
+// The greatest value that `y` reaches, by halving among all values.
 fn halved(y: u32) -> u32
     requires { y ≤ 2 ^ 30 }
     ensures { result ≡ greatest_reached y }

@@ -7,10 +7,10 @@ use crate::reached::reached;
 use crate::scale::{scale_lines, scaled_line, steps};
 use l3_base::Spectrum;
 
-/// The greatest absolute value of a quantised line. Layer III's code tables take up to 8206; the limit is this project's own.
+// The greatest absolute value of a quantised line. Layer III's code tables take up to 8206; the limit is this project's own.
 pub(crate) const GREATEST: u32 = 8191;
 
-/// The quantised value of an absolute value, cut at 8192.
+// The quantised value of an absolute value, cut at 8192.
 #[inline(always)]
 pub(crate) fn cut_magnitude(x: u32, h: u32) -> u32
     requires line { x < 2 ^ 29 }
@@ -34,7 +34,7 @@ pub fn line(x: i32, gain: i16) -> Option<u16>
     if n <= GREATEST { Some(n as u16) } else { None }
 }
 
-/// The value with the sign of the line, by a product: signs are too irregular for a branch.
+// The value with the sign of the line, by a product: signs are too irregular for a branch.
 #[inline(always)]
 fn signed(n: u32, x: i32) -> i16
     requires { n ≤ 8191 }
@@ -58,14 +58,14 @@ pub fn all(spec: &Spectrum, gain: i16, out: &mut [i16; 576]) -> bool
     quantise(spec.lines(), gain, out)
 }
 
-/// Room for 576 scaled lines.
+// Room for 576 scaled lines.
 fn unscaled() -> [u32; 576]
     ensures { result ≡ replicate 576 0 }
 {
     [0; 576]
 }
 
-/// The same for the lines themselves.
+// The same for the lines themselves.
 fn quantise(lines: &[i32; 576], gain: i16, out: &mut [i16; 576]) -> bool
     requires small { All IsLine lines.now }
     requires low { negsuc 63 ≤ℤ gain }

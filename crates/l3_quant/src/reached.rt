@@ -4,13 +4,13 @@ ghost use Rattle.l3_quant.specs.Thresholds.{threshold_at};
 
 use crate::thresholds::{first, high, middle, threshold};
 
-/// Below this each block of 1024 has one threshold at most.
+// Below this each block of 1024 has one threshold at most.
 const LOW: u32 = 262_144;
 
-/// Below this each block of 8192 has.
+// Below this each block of 8192 has.
 const MIDDLE: u32 = 16_777_216;
 
-/// The greatest value that `y` reaches: one compare after the value of its block.
+// The greatest value that `y` reaches: one compare after the value of its block.
 #[inline(always)]
 fn low_reached(y: u32) -> u32
     requires { y < 262144 }
@@ -25,7 +25,7 @@ fn low_reached(y: u32) -> u32
     }
 }
 
-/// The same with greater blocks.
+// The same with greater blocks.
 #[inline(always)]
 fn middle_reached(y: u32) -> u32
     requires high { y < 16777216 }
@@ -41,8 +41,8 @@ fn middle_reached(y: u32) -> u32
     }
 }
 
-/// One turn of a halving: the lower end of that half of the `2 * half` values from `n` on in which the greatest one lies, by a product: thresholds are too
-/// irregular for a branch.
+// One turn of a halving: the lower end of that half of the `2 * half` values from `n` on in which the greatest one lies, by a product: thresholds are too
+// irregular for a branch.
 #[inline(always)]
 fn half_of(y: u32, n: usize, half: usize) -> usize
     requires begins { threshold_at n ≤ y }
@@ -55,7 +55,7 @@ fn half_of(y: u32, n: usize, half: usize) -> usize
     n + half * usize::from(threshold(n + half) <= y)
 }
 
-/// The same above them: four turns after the value of its block; each name tells how many values are left from it on.
+// The same above them: four turns after the value of its block; each name tells how many values are left from it on.
 #[inline(always)]
 fn high_reached(y: u32) -> u32
     requires low { 16777216 ≤ y }
@@ -69,7 +69,7 @@ fn high_reached(y: u32) -> u32
     half_of(y, two, 1) as u32
 }
 
-/// The greatest value that `y` reaches, cut at 8192.
+// The greatest value that `y` reaches, cut at 8192.
 #[inline(always)]
 pub(crate) fn reached(y: u32) -> u32
     ensures { result ≡ min (greatest_reached y) 8192 }

@@ -4,10 +4,10 @@ ghost use Rattle.l3_quant.specs.Quantiser.{scaled, steps_of};
 
 use l3_tables::quarter;
 
-/// Where scaled lines are cut: 8192 is reached long before.
+// Where scaled lines are cut: 8192 is reached long before.
 const CUT: u64 = 1 << 30;
 
-/// The quarter steps from a gain up to 258.
+// The quarter steps from a gain up to 258.
 #[inline(always)]
 pub(crate) fn steps(gain: i16) -> u32
     requires low { negsuc 63 ≤ℤ gain }
@@ -18,7 +18,7 @@ pub(crate) fn steps(gain: i16) -> u32
     (258 - i32::from(gain)).unsigned_abs()
 }
 
-/// The scaled line, cut at 2^30.
+// The scaled line, cut at 2^30.
 #[inline(always)]
 pub(crate) fn scaled_line(x: u32, h: u32) -> u32
     requires line { x < 2 ^ 29 }
@@ -33,7 +33,7 @@ pub(crate) fn scaled_line(x: u32, h: u32) -> u32
     }
 }
 
-/// All lines scaled: a loop with no branch in its body.
+// All lines scaled: a loop with no branch in its body.
 pub(crate) fn scale_lines(lines: &[i32; 576], h: u32, out: &mut [u32; 576])
     requires lines { All IsLine lines.now }
     requires steps { h ≤ 322 }

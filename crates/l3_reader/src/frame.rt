@@ -16,7 +16,7 @@ use l3_bits::take_bits;
 use l3_side::{read_header, read_side, write_header};
 use l3_stream::ChosenFrame;
 
-/// The settings under which this is the header of the first frame, which is not padded.
+// The settings under which this is the header of the first frame, which is not padded.
 pub(crate) fn first_settings(header: &[u8; 4]) -> Option<Settings>
     ensures { settings_at (bits_of header.now) ≡ result }
 {
@@ -24,7 +24,7 @@ pub(crate) fn first_settings(header: &[u8; 4]) -> Option<Settings>
     if padded { None } else { Some(settings) }
 }
 
-/// Whether this is the header of the frame of this number.
+// Whether this is the header of the frame of this number.
 pub(crate) fn is_header(settings: &Settings, number: u64, header: &[u8; 4]) -> bool
     requires { number ≤ 2 ^ 32 }
     ensures { result ≡ same (bits_of header.now) (header_at settings.now number) }
@@ -33,7 +33,7 @@ pub(crate) fn is_header(settings: &Settings, number: u64, header: &[u8; 4]) -> b
     take_bits(header, 0, 32) == take_bits(&wanted, 0, 32)
 }
 
-/// Reads a frame from all its bytes, of which the header is the right one, and goes on behind it.
+// Reads a frame from all its bytes, of which the header is the right one, and goes on behind it.
 pub(crate) fn read_frame(
     settings: &Settings,
     tape: &mut Tape,

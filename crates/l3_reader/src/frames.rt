@@ -18,10 +18,10 @@ use l3_io::{Source, read_full};
 use l3_stream::ChosenFrame;
 use std::alloc::Global;
 
-/// Bytes of the longest frame: 320 kbit/s at 32000 Hz, and the byte of padding.
+// Bytes of the longest frame: 320 kbit/s at 32000 Hz, and the byte of padding.
 const FRAME_LIMIT: usize = 1441;
 
-/// Bytes of a header.
+// Bytes of a header.
 const HEADER_BYTES: usize = 4;
 
 // A frame before it is read.
@@ -31,7 +31,7 @@ fn no_bytes() -> [u8; FRAME_LIMIT]
     [0; FRAME_LIMIT]
 }
 
-/// Reads into the front of a buffer, all that it has room for or all that is left, and says how many bytes.
+// Reads into the front of a buffer, all that it has room for or all that is left, and says how many bytes.
 fn read_front<S: Source>(source: &mut S, buf: &mut [u8]) -> Result<usize, StreamFault>
     ensures content { IfOk result (λ n. IfSome (S.left source.old) (λ left. ReadsFront left n buf.new (S.left source.new))) }
     ensures bound { IfOk result (λ n. n ≤ length buf.new) }
@@ -45,7 +45,7 @@ fn read_front<S: Source>(source: &mut S, buf: &mut [u8]) -> Result<usize, Stream
     }
 }
 
-/// Reads the header with which a frame of this number begins at this byte, or nothing where no byte is left.
+// Reads the header with which a frame of this number begins at this byte, or nothing where no byte is left.
 pub(crate) fn read_header_bytes<S: Source>(
     source: &mut S,
     limit: u64,
@@ -74,7 +74,7 @@ pub(crate) fn read_header_bytes<S: Source>(
     Ok(Some(header))
 }
 
-/// Reads the frame that begins with this header, and goes on behind it.
+// Reads the frame that begins with this header, and goes on behind it.
 fn read_whole<S: Source>(
     source: &mut S,
     settings: &Settings,
@@ -106,7 +106,7 @@ fn read_whole<S: Source>(
     Ok(frame)
 }
 
-/// Whether the tape is 0 behind the codes so far.
+// Whether the tape is 0 behind the codes so far.
 fn test_rest(settings: &Settings, tape: &Tape) -> Result<(), StreamFault>
     requires kept { IsKept settings.now tape.now }
     ensures { result ≡ clear tape.now.end (place_of tape.now).rest }
@@ -116,7 +116,7 @@ fn test_rest(settings: &Settings, tape: &Tape) -> Result<(), StreamFault>
     test_zeros(first, &tape.bytes[..tape.filled], tape.end - first, bits)
 }
 
-/// Puts a frame behind the others.
+// Puts a frame behind the others.
 fn keep(frames: &mut Vec<ChosenFrame>, frame: ChosenFrame) -> Result<(), StreamFault>
     ensures kept { OnOk result (frames.new.items ≡ frames.old.items ++ frame ∷ []) }
     ensures memory { IfErr result (λ fault. fault ≡ StreamFault.Memory) }
@@ -127,7 +127,7 @@ fn keep(frames: &mut Vec<ChosenFrame>, frame: ChosenFrame) -> Result<(), StreamF
     }
 }
 
-/// Reads the frames of which the first begins with this header, to the end of the source.
+// Reads the frames of which the first begins with this header, to the end of the source.
 pub(crate) fn read_frames<S: Source>(
     alloc: Global,
     limit: u32,

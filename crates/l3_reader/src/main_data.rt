@@ -18,7 +18,7 @@ use l3_base::{Channels, Settings};
 use l3_bits::take_bits;
 use l3_stream::{ChosenFrame, Unit};
 
-/// Whether bits are 0, from bit `at` to `end`. Bit 0 of the bytes is bit `first` of the tape.
+// Whether bits are 0, from bit `at` to `end`. Bit 0 of the bytes is bit `first` of the tape.
 pub(crate) fn test_zeros(first: u64, bytes: &[u8], at: u64, end: u64) -> Result<(), StreamFault>
     requires first { first + 8 * length bytes.now < 2 ^ 64 }
     requires order { at ≤ end }
@@ -38,7 +38,7 @@ pub(crate) fn test_zeros(first: u64, bytes: &[u8], at: u64, end: u64) -> Result<
     Ok(())
 }
 
-/// `part2_3_length` of a unit.
+// `part2_3_length` of a unit.
 fn unit_length(unit: &Unit) -> u64
     ensures value { result ≡ unit.now.length }
     ensures small { result < 2 ^ 16 }
@@ -46,7 +46,7 @@ fn unit_length(unit: &Unit) -> u64
     u64::from(unit.length)
 }
 
-/// The sum of `part2_3_length` of a frame's units.
+// The sum of `part2_3_length` of a frame's units.
 fn units_length(settings: &Settings, frame: &ChosenFrame) -> u64
     requires shape { frame.now.units ≡ placed settings.now.channels (units_of settings.now.channels frame.now.units) }
     requires number { length (units_of settings.now.channels frame.now.units) ≡ units_number settings.now.channels }
@@ -63,7 +63,7 @@ fn units_length(settings: &Settings, frame: &ChosenFrame) -> u64
     }
 }
 
-/// The tape bit at which the main data begins: within the tape so far, and not before the codes of the frame before end.
+// The tape bit at which the main data begins: within the tape so far, and not before the codes of the frame before end.
 fn main_start(tape: &Tape, begin: u16) -> Option<u64>
     requires small { tape.now.base + tape.now.filled < 2 ^ 60 }
     ensures some { IfSome result (λ start. (begin ≤ tape.now.base + tape.now.filled) × (start ≡ 8 * (tape.now.base + tape.now.filled - begin)) × (tape.now.end ≤ start)) }
@@ -77,9 +77,9 @@ fn main_start(tape: &Tape, begin: u16) -> Option<u64>
     if start < tape.end { None } else { Some(start) }
 }
 
-/// Reads the main data of a frame that has its side information, and gives the tape bit behind it.
-///
-/// The frame's slot stands behind the bytes kept.
+// Reads the main data of a frame that has its side information, and gives the tape bit behind it.
+//
+// The frame's slot stands behind the bytes kept.
 pub(crate) fn read_main(
     settings: &Settings,
     tape: &Tape,

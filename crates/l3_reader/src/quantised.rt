@@ -13,7 +13,7 @@ use l3_base::Settings;
 use l3_huff::{QuadTable, read_pair, read_quad};
 use l3_stream::Unit;
 
-/// The regions of a unit's pairs: their tables, and where the second and the third region begin.
+// The regions of a unit's pairs: their tables, and where the second and the third region begin.
 #[derive(Clone, Copy)]
 pub(crate) struct Regions {
     tables: [u8; 3],
@@ -22,7 +22,7 @@ pub(crate) struct Regions {
 }
 
 impl Regions {
-    /// The regions that a unit's side information tells.
+    // The regions that a unit's side information tells.
     pub(crate) fn of(settings: &Settings, unit: &Unit) -> Regions
         requires { HasFields unit.now }
         ensures { result ≡ regions_of settings.now unit.now }
@@ -35,7 +35,7 @@ impl Regions {
         }
     }
 
-    /// `table_select` of the pair that begins at a line.
+    // `table_select` of the pair that begins at a line.
     fn table(&self, line: usize) -> u8
         requires { length self.now.tables ≡ 3 }
         ensures { result ≡ table_by self.now line }
@@ -50,7 +50,7 @@ impl Regions {
     }
 }
 
-/// The first line of a scale factor band.
+// The first line of a scale factor band.
 fn first_line(settings: &Settings, band: usize) -> usize
     requires { band ≤ 22 }
     ensures { result ≡ edge settings.now band }
@@ -58,7 +58,7 @@ fn first_line(settings: &Settings, band: usize) -> usize
     usize::from(l3_tables::edge(settings.sample_rate.index(), band))
 }
 
-/// Reads pairs into lines, from bit `at` on, and gives the bit behind them. Bit 0 of the bytes is bit `first` of the tape.
+// Reads pairs into lines, from bit `at` on, and gives the bit behind them. Bit 0 of the bytes is bit `first` of the tape.
 pub(crate) fn read_pairs(
     regions: &Regions,
     first: u64,
@@ -94,7 +94,7 @@ pub(crate) fn read_pairs(
     Ok(place)
 }
 
-/// Reads quadruples into lines of value 0 until no bit is left, and says how many.
+// Reads quadruples into lines of value 0 until no bit is left, and says how many.
 pub(crate) fn read_quads(
     table: QuadTable,
     first: u64,

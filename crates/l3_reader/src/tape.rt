@@ -5,23 +5,23 @@ ghost use Rattle.l3_base.specs.declared.settings.Settings.{Settings};
 ghost use Rattle.l3_stream.specs.Deviation.{first_place};
 ghost use Rattle.l3_reader.specs.Steps.{IsKept, place_of};
 
-/// Bytes of the tape that are kept: at most 511 before a slot, that slot and the next one, each of at most 1420.
+// Bytes of the tape that are kept: at most 511 before a slot, that slot and the next one, each of at most 1420.
 pub(crate) const KEPT_BYTES: usize = 4096;
 
-/// Where reading stands: a frame begins, and the codes before it end at a bit of the tape.
-///
-/// `main_data_begin` is at most 511, so the codes of a frame end no earlier than 511 bytes before its slot, and the bytes kept are few.
+// Where reading stands: a frame begins, and the codes before it end at a bit of the tape.
+//
+// `main_data_begin` is at most 511, so the codes of a frame end no earlier than 511 bytes before its slot, and the bytes kept are few.
 #[derive(Drop)]
 pub(crate) struct Tape {
-    /// The number of the frame.
+    // The number of the frame.
     pub(crate) number: u64,
-    /// The byte of the file at which it begins.
+    // The byte of the file at which it begins.
     pub(crate) at: u64,
-    /// The tape bit behind the codes so far.
+    // The tape bit behind the codes so far.
     pub(crate) end: u64,
-    /// The byte of the tape that is the first one kept.
+    // The byte of the tape that is the first one kept.
     pub(crate) base: u64,
-    /// How many bytes are kept: up to the end of the last slot.
+    // How many bytes are kept: up to the end of the last slot.
     pub(crate) filled: usize,
     pub(crate) bytes: [u8; KEPT_BYTES],
 }
@@ -34,7 +34,7 @@ fn no_bytes() -> [u8; KEPT_BYTES]
 }
 
 impl Tape {
-    /// The start of the file.
+    // The start of the file.
     pub(crate) fn start() -> Tape
         ensures place { place_of result ≡ first_place }
         ensures kept { (st : Settings) → IsKept st result }
@@ -50,7 +50,7 @@ impl Tape {
         }
     }
 
-    /// Puts a slot behind the bytes kept.
+    // Puts a slot behind the bytes kept.
     pub(crate) fn append(&mut self, slot: &[u8])
         requires room { self.old.filled + length slot.now ≤ 4096 }
         requires bytes { length self.old.bytes ≡ 4096 }
@@ -62,7 +62,7 @@ impl Tape {
         self.bytes[self.filled..self.filled + slot.len()].copy_from_slice(slot);
     }
 
-    /// Goes on behind a frame whose slot stands behind the bytes kept, and whose codes end at a tape bit.
+    // Goes on behind a frame whose slot stands behind the bytes kept, and whose codes end at a tape bit.
     pub(crate) fn pass(&mut self, slot_bytes: usize, frame_bytes: usize, end: u64)
         requires number { self.old.number < 2 ^ 32 }
         requires at { self.old.at + frame_bytes < 2 ^ 64 }

@@ -16,7 +16,7 @@ use crate::quantised::{Regions, read_pairs, read_quads};
 use l3_base::{Channels, Settings};
 use l3_stream::{ChosenFrame, Unit};
 
-/// Reads the lines of a unit that has its side information, from bit `at` on, and gives the bit behind it.
+// Reads the lines of a unit that has its side information, from bit `at` on, and gives the bit behind it.
 fn read_unit(
     settings: &Settings,
     first: u64,
@@ -41,7 +41,7 @@ fn read_unit(
     Ok(end)
 }
 
-/// Reads the units of both channels of a granule, and gives the bit behind them.
+// Reads the units of both channels of a granule, and gives the bit behind them.
 fn read_granule(
     settings: &Settings,
     first: u64,
@@ -62,7 +62,7 @@ fn read_granule(
     Ok(end)
 }
 
-/// Reads the two units of a frame in mono.
+// Reads the two units of a frame in mono.
 fn read_mono(
     settings: &Settings,
     first: u64,
@@ -85,7 +85,7 @@ fn read_mono(
     Ok(end)
 }
 
-/// Reads the four units of a frame in stereo.
+// Reads the four units of a frame in stereo.
 fn read_stereo(
     settings: &Settings,
     first: u64,
@@ -108,7 +108,7 @@ fn read_stereo(
     Ok(end)
 }
 
-/// Reads the units of a frame that has its side information, from bit `at` on, and gives the bit behind them.
+// Reads the units of a frame that has its side information, from bit `at` on, and gives the bit behind them.
 pub(crate) fn read_units(
     settings: &Settings,
     first: u64,

@@ -5,12 +5,12 @@ ghost use Rattle.l3_region.specs.Lanes.{AreFloors, AreSums, CostsGrow, IsBestPai
 
 use crate::lanes::{mask, table};
 
-/// Bits of pairs in each lane.
+// Bits of pairs in each lane.
 pub(crate) type Row = [u16; 24];
 
-/// What the bits between two rows of sums are in the cheapest lane, where a table without linbits holds the values.
-///
-/// Of the lanes with linbits the first one is enough.
+// What the bits between two rows of sums are in the cheapest lane, where a table without linbits holds the values.
+//
+// Of the lanes with linbits the first one is enough.
 #[inline(never)]
 fn least_of_sixteen(low: &Row, high: &Row, class: u8) -> u16
     requires class { class < 6 }
@@ -26,9 +26,9 @@ fn least_of_sixteen(low: &Row, high: &Row, class: u8) -> u16
     least
 }
 
-/// The first lane of least cost between two rows of sums, where a table without linbits holds the values.
-///
-/// Of the lanes with linbits the first one is enough.
+// The first lane of least cost between two rows of sums, where a table without linbits holds the values.
+//
+// Of the lanes with linbits the first one is enough.
 fn first_of_thirteen(low: &Row, high: &Row, class: u8) -> usize
     requires class { class < 6 }
     requires rising { (k : ℕ) → k < 24 → slice_index low.now k ≤ slice_index high.now k }
@@ -48,9 +48,9 @@ fn first_of_thirteen(low: &Row, high: &Row, class: u8) -> usize
     lane
 }
 
-/// The first lane of least cost between two rows of sums.
-///
-/// Where only tables with linbits hold the values, it is the first of these; zeros cost nothing in lane 0.
+// The first lane of least cost between two rows of sums.
+//
+// Where only tables with linbits hold the values, it is the first of these; zeros cost nothing in lane 0.
 fn first_lane(low: &Row, high: &Row, class: u8) -> usize
     requires class { class < 14 }
     requires rising { (k : ℕ) → k < 24 → slice_index low.now k ≤ slice_index high.now k }
@@ -68,9 +68,9 @@ fn first_lane(low: &Row, high: &Row, class: u8) -> usize
     }
 }
 
-/// What some bands cost in the cheapest lane, for their greatest class; zeros cost nothing.
-///
-/// Where only tables with linbits hold the values, the first of these is the cheapest.
+// What some bands cost in the cheapest lane, for their greatest class; zeros cost nothing.
+//
+// Where only tables with linbits hold the values, the first of these is the cheapest.
 #[inline(always)]
 fn range_bits(rows: &[Row; 23], classes: &[u8; 22], from: usize, to: usize, class: u8) -> u32
     requires sums { AreSums rows.now classes.now }
@@ -90,7 +90,7 @@ fn range_bits(rows: &[Row; 23], classes: &[u8; 22], from: usize, to: usize, clas
     }
 }
 
-/// The greatest class of some bands.
+// The greatest class of some bands.
 fn greatest_class(classes: &[u8; 22], from: usize, to: usize) -> u8
     requires order { from ≤ to }
     requires within { to ≤ 22 }
@@ -103,7 +103,7 @@ fn greatest_class(classes: &[u8; 22], from: usize, to: usize) -> u8
     class
 }
 
-/// The table of the first of the cheapest lanes for some bands.
+// The table of the first of the cheapest lanes for some bands.
 pub(crate) fn range_table(rows: &[Row; 23], classes: &[u8; 22], from: usize, to: usize) -> u8
     requires sums { AreSums rows.now classes.now }
     requires order { from ≤ to }
@@ -113,7 +113,7 @@ pub(crate) fn range_table(rows: &[Row; 23], classes: &[u8; 22], from: usize, to:
     table(first_lane(&rows[from], &rows[to], greatest_class(classes, from, to)))
 }
 
-/// Room for what the bands from each one on cost.
+// Room for what the bands from each one on cost.
 #[inline(always)]
 fn no_tails() -> [u32; 23]
     ensures { result ≡ replicate 23 0 }
@@ -121,7 +121,7 @@ fn no_tails() -> [u32; 23]
     [0; 23]
 }
 
-/// What the bands from each one on cost in the cheapest lane.
+// What the bands from each one on cost in the cheapest lane.
 fn tails(rows: &[Row; 23], classes: &[u8; 22]) -> [u32; 23]
     requires { AreSums rows.now classes.now }
     ensures values { (e : ℕ) → e < 23 → slice_index result e ≡ range_cost rows.now classes.now e (22 - e) }
@@ -138,7 +138,7 @@ fn tails(rows: &[Row; 23], classes: &[u8; 22]) -> [u32; 23]
     tails
 }
 
-/// What the bands before each one cost at least, each for itself in its cheapest lane.
+// What the bands before each one cost at least, each for itself in its cheapest lane.
 fn floors(rows: &[Row; 23], classes: &[u8; 22]) -> [u32; 23]
     requires sums { AreSums rows.now classes.now }
     requires grow { CostsGrow rows.now classes.now }
@@ -154,14 +154,14 @@ fn floors(rows: &[Row; 23], classes: &[u8; 22]) -> [u32; 23]
     floors
 }
 
-/// A pair of region lengths by its place, 8 times the first one and the second one, and the bits of all pairs of values.
+// A pair of region lengths by its place, 8 times the first one and the second one, and the bits of all pairs of values.
 #[derive(Clone, Copy)]
 pub(crate) struct Pair {
     pub place: u8,
     pub bits: u32,
 }
 
-/// The pair that takes fewer bits, and the first one at a tie.
+// The pair that takes fewer bits, and the first one at a tie.
 #[inline(always)]
 fn better(first: Pair, second: Pair) -> Pair
     ensures second { second.bits < first.bits → result ≡ second }
@@ -174,7 +174,7 @@ fn better(first: Pair, second: Pair) -> Pair
     }
 }
 
-/// The best of the pairs so far and of those with `region0`, whose region 0 takes `first` bits.
+// The best of the pairs so far and of those with `region0`, whose region 0 takes `first` bits.
 #[inline(always)]
 fn best_second(
     rows: &[Row; 23],
@@ -223,7 +223,7 @@ fn best_second(
     best
 }
 
-/// The first of the pairs of region lengths that take the fewest bits.
+// The first of the pairs of region lengths that take the fewest bits.
 pub(crate) fn best_pair(rows: &[Row; 23], classes: &[u8; 22]) -> Pair
     requires sums { AreSums rows.now classes.now }
     requires grow { CostsGrow rows.now classes.now }

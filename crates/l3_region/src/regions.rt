@@ -29,7 +29,7 @@ pub struct Regions {
     pub bits: u32,
 }
 
-/// Room for the sums up to each band.
+// Room for the sums up to each band.
 #[inline(always)]
 fn no_sums() -> [Row; 23]
     ensures { result ≡ replicate 23 (replicate 24 0) }
@@ -37,7 +37,7 @@ fn no_sums() -> [Row; 23]
     [[0; 24]; 23]
 }
 
-/// Room for the class of each band.
+// Room for the class of each band.
 #[inline(always)]
 fn no_classes() -> [u8; 22]
     ensures { result ≡ replicate 22 0 }
@@ -45,7 +45,7 @@ fn no_classes() -> [u8; 22]
     [0; 22]
 }
 
-/// The regions and tables of cut values that are split so.
+// The regions and tables of cut values that are split so.
 fn regions_of_cut(cut: &[u8; 576], peaks: &[u16; 22], split: Split, rate: SampleRate) -> Regions
     requires known { (q : List ℤ) × AreCutOf (edges_at (hertz_index_of rate)) q cut.now peaks.now }
     requires split { split ≡ split_of (as_lines cut.now) }

@@ -3,7 +3,7 @@
 ghost use Rattle.std.specs.Prelude.{◌≡◌, ◌<◌, ◌≤◌, ℕ, length, slice_index};
 ghost use Rattle.l3_region.specs.Lanes.{row_at};
 
-/// The bits of pairs in each lane's table, linbits and signs included, by the place of their absolute values cut at 15; 0 where the table has no such code.
+// The bits of pairs in each lane's table, linbits and signs included, by the place of their absolute values cut at 15; 0 where the table has no such code.
 #[rattlefmt::skip]
 static ROWS: [[u16; 24]; 256] = [
     [ 0,  1,  1,  2,  1,  3,  1,  2,  3,  1,  2,  4,  4,  4,  4,  4,  4,  4,  4,  4,  4,  4,  4,  4],
@@ -263,7 +263,7 @@ static ROWS: [[u16; 24]; 256] = [
     [ 0,  0,  0,  0,  0,  0,  0,  0,  0,  0,  0,  0, 14, 15, 16, 17, 18, 19, 21, 23, 23, 23, 23, 23],
     [ 0,  0,  0,  0,  0,  0,  0,  0,  0,  0,  0,  0, 14, 16, 18, 20, 22, 24, 28, 32, 32, 32, 32, 32],
 ];
-/// The bits of the pair at a place, lane by lane.
+// The bits of the pair at a place, lane by lane.
 #[inline(always)]
 pub(crate) fn row(place: usize) -> &'static [u16; 24]
     requires { place < 256 }

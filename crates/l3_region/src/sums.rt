@@ -11,7 +11,7 @@ use crate::lanes::class_of;
 use crate::rows::row;
 use l3_tables::edge;
 
-/// No bits in each lane.
+// No bits in each lane.
 #[inline(always)]
 fn no_bits() -> [u16; 24]
     ensures { result ≡ replicate 24 0 }
@@ -19,7 +19,7 @@ fn no_bits() -> [u16; 24]
     [0; 24]
 }
 
-/// The place of a pair of cut values.
+// The place of a pair of cut values.
 #[inline(always)]
 fn place(x: u8, y: u8) -> usize
     requires x { x ≤ 15 }
@@ -30,7 +30,7 @@ fn place(x: u8, y: u8) -> usize
     16 * usize::from(x) + usize::from(y)
 }
 
-/// Adds the bits of one pair.
+// Adds the bits of one pair.
 #[inline(always)]
 fn add_row(sums: &mut [u16; 24], row: &[u16; 24])
     requires long { length sums.old ≡ 24 }
@@ -44,7 +44,7 @@ fn add_row(sums: &mut [u16; 24], row: &[u16; 24])
     }
 }
 
-/// Adds the bits of the pairs from one to before another.
+// Adds the bits of the pairs from one to before another.
 #[inline(always)]
 fn add_pairs(cut: &[u8; 576], from: usize, to: usize, sums: &mut [u16; 24])
     requires small { All (λ x. x ≤ 15) cut.now }
@@ -62,7 +62,7 @@ fn add_pairs(cut: &[u8; 576], from: usize, to: usize, sums: &mut [u16; 24])
     *sums = sum;
 }
 
-/// The greatest value.
+// The greatest value.
 #[inline(always)]
 pub(crate) fn greatest(values: &[u8]) -> u8
     ensures { (n : ℕ) → list_all (λ x. nat_le x n) values.now ≡ nat_le result n }
@@ -74,7 +74,7 @@ pub(crate) fn greatest(values: &[u8]) -> u8
     greatest
 }
 
-/// The greatest value of a band's part, which a cut value below 15 tells, and otherwise the greatest one of the band, since all others are at most 1.
+// The greatest value of a band's part, which a cut value below 15 tells, and otherwise the greatest one of the band, since all others are at most 1.
 #[inline(always)]
 fn peak_of_part(part: &[u8], peak: u16) -> u16
     ensures { (m : ℕ) × ((n : ℕ) → list_all (λ x. nat_le x n) part.now ≡ nat_le m n) × (m < 15 → result ≡ m) × (15 ≤ m → result ≡ peak) }
@@ -83,7 +83,7 @@ fn peak_of_part(part: &[u8], peak: u16) -> u16
     if greatest < 15 { greatest } else { peak }
 }
 
-/// The class of a band's values before the line where the pairs end.
+// The class of a band's values before the line where the pairs end.
 #[inline(always)]
 fn band_class(
     cut: &[u8; 576],
@@ -109,7 +109,7 @@ fn band_class(
     })
 }
 
-/// Writes the sums up to each band and the class of each band, all cut at the line where the pairs end.
+// Writes the sums up to each band and the class of each band, all cut at the line where the pairs end.
 pub(crate) fn sum_bands(
     cut: &[u8; 576],
     peaks: &[u16; 22],

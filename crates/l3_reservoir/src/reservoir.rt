@@ -6,7 +6,7 @@ use crate::borrowing::borrow;
 use l3_base::Settings;
 use std::marker::Model;
 
-/// The greatest `part2_3_length` in bits: the field has 12 bits (ISO/IEC 11172-3, 2.4).
+// The greatest `part2_3_length` in bits: the field has 12 bits (ISO/IEC 11172-3, 2.4).
 const LENGTH_LIMIT: u64 = 4095;
 
 /// The reserve of the bit reservoir in bits, as it stands before a unit.

@@ -22,7 +22,7 @@ pub struct Picked {
     pub made: u16,
 }
 
-/// The first gain of a spectrum.
+// The first gain of a spectrum.
 #[inline(always)]
 fn start(spec: &Spectrum) -> u8
     ensures value { result ≡ first_gain_of spec.now }
@@ -32,7 +32,7 @@ fn start(spec: &Spectrum) -> u8
     first_gain(spec)
 }
 
-/// Makes the count at a gain that is no less than the first one, and puts it into the memo.
+// Makes the count at a gain that is no less than the first one, and puts it into the memo.
 fn make<L: Ledger + Send>(
     spec: &Spectrum,
     peaks: &[u32; 22],
@@ -58,7 +58,7 @@ fn make<L: Ledger + Send>(
     }
 }
 
-/// The memo's count at a gain that is no less than the first one, or where it has none, one that is made.
+// The memo's count at a gain that is no less than the first one, or where it has none, one that is made.
 fn look_up<L: Ledger + Send>(
     spec: &Spectrum,
     peaks: &[u32; 22],

@@ -14,7 +14,7 @@ ghost use Rattle.l3_side.specs.Numbers.{HasHeaderFields};
 use l3_base::{Channels, Rate, SampleRate, Settings};
 use l3_bits::{put_bits, take_bits};
 
-/// The first 16 bits of each header: sync, ID 1, layer `01` and protection_bit 1, which is no CRC.
+// The first 16 bits of each header: sync, ID 1, layer `01` and protection_bit 1, which is no CRC.
 const SYNC: u64 = 0xFFFB;
 
 /// The header of the frame of this number, padded by the remainder rule.
@@ -48,7 +48,7 @@ pub fn read_header(bytes: &[u8; 4]) -> Option<(Settings, bool)>
     }
 }
 
-/// The header of a frame as a number of 32 bits.
+// The header of a frame as a number of 32 bits.
 fn header_number(settings: &Settings, padded: bool) -> u64
     ensures digits { digits 32 result ≡ header_bits settings.now padded false }
     ensures small { result < 2 ^ 32 }
@@ -66,7 +66,7 @@ fn header_number(settings: &Settings, padded: bool) -> u64
     (with_padding * 8 + mode) * 64
 }
 
-/// The settings that the fields of a header's number stand for, where there are some.
+// The settings that the fields of a header's number stand for, where there are some.
 fn settings_of(number: u64) -> Option<Settings>
     ensures some { IfSome result (λ st. HasHeaderFields st number) }
     ensures none { IfNone result ((st : Settings) → HasHeaderFields st number → ⊥) }
@@ -81,7 +81,7 @@ fn settings_of(number: u64) -> Option<Settings>
     })
 }
 
-/// The rate of a `bitrate_index`: index 0 is the free format, and 15 is forbidden.
+// The rate of a `bitrate_index`: index 0 is the free format, and 15 is forbidden.
 fn rate_of(index: u64) -> Option<Rate>
     ensures some { IfSome result (λ rate. index_of rate ≡ index) }
     ensures none { IfNone result ((rate : Rate) → index_of rate ≡ index → ⊥) }
@@ -105,7 +105,7 @@ fn rate_of(index: u64) -> Option<Rate>
     }
 }
 
-/// The sampling frequency of a field `sampling_frequency`: 3 is reserved.
+// The sampling frequency of a field `sampling_frequency`: 3 is reserved.
 fn sample_rate_of(index: u64) -> Option<SampleRate>
     ensures some { IfSome result (λ rate. hertz_index_of rate ≡ index) }
     ensures none { IfNone result ((rate : SampleRate) → hertz_index_of rate ≡ index → ⊥) }
@@ -118,7 +118,7 @@ fn sample_rate_of(index: u64) -> Option<SampleRate>
     }
 }
 
-/// The channels of a `mode`: the profile has stereo, 0, and single channel, 3.
+// The channels of a `mode`: the profile has stereo, 0, and single channel, 3.
 fn channels_of(mode: u64) -> Option<Channels>
     ensures some { IfSome result (λ channels. mode_of channels false ≡ mode) }
     ensures none { IfNone result ((channels : Channels) → mode_of channels false ≡ mode → ⊥) }

@@ -40,7 +40,7 @@ pub fn read_side(settings: &Settings, bytes: &[u8]) -> Option<ChosenFrame>
     if whole { Some(frame) } else { None }
 }
 
-/// Reads two units after the front into a frame of blank units. Where it answers false the frame is of no use.
+// Reads two units after the front into a frame of blank units. Where it answers false the frame is of no use.
 fn read_mono(bytes: &[u8], frame: &mut ChosenFrame) -> bool
     requires size { length bytes.now ≡ 17 }
     requires empty { frame.old.units ≡ replicate 2 (replicate 2 blank) }
@@ -59,7 +59,7 @@ fn read_mono(bytes: &[u8], frame: &mut ChosenFrame) -> bool
     }
 }
 
-/// Reads four units after the front into a frame of blank units. Where it answers false the frame is of no use.
+// Reads four units after the front into a frame of blank units. Where it answers false the frame is of no use.
 fn read_stereo(bytes: &[u8], frame: &mut ChosenFrame) -> bool
     requires size { length bytes.now ≡ 32 }
     requires empty { frame.old.units ≡ replicate 2 (replicate 2 blank) }
@@ -78,7 +78,7 @@ fn read_stereo(bytes: &[u8], frame: &mut ChosenFrame) -> bool
     }
 }
 
-/// `main_data_begin`, where private_bits and scfsi are 0.
+// `main_data_begin`, where private_bits and scfsi are 0.
 fn read_front(channels: Channels, bytes: &[u8]) -> Option<u16>
     requires { 3 ≤ length bytes.now }
     ensures value { IfSome result (λ begin. begin ≡ begin_at (bits_of bytes.now)) }
@@ -96,7 +96,7 @@ fn read_front(channels: Channels, bytes: &[u8]) -> Option<u16>
     }
 }
 
-/// Reads both units of a granule, from bit `at` on, into blank ones.
+// Reads both units of a granule, from bit `at` on, into blank ones.
 fn read_granule(bytes: &[u8], at: u64, units: &mut [Unit; 2]) -> bool
     requires place { at ≤ 138 }
     requires within { at + 118 ≤ 8 * length bytes.now }
@@ -109,7 +109,7 @@ fn read_granule(bytes: &[u8], at: u64, units: &mut [Unit; 2]) -> bool
     read_unit(bytes, at, &mut units[0]) && read_unit(bytes, at + 59, &mut units[1])
 }
 
-/// Reads the unit from bit `at` on into a blank one, if the profile allows its fields.
+// Reads the unit from bit `at` on into a blank one, if the profile allows its fields.
 fn read_unit(bytes: &[u8], at: u64, unit: &mut Unit) -> bool
     requires within { at + 59 ≤ 8 * length bytes.now }
     requires empty { unit.old ≡ blank }

@@ -11,13 +11,13 @@ ghost use Rattle.l3_side.specs.Numbers.{fields_in, HasZeros};
 use l3_huff::{QuadTable, is_table};
 use l3_stream::Unit;
 
-/// The greatest `big_values`: pairs are within 576 lines.
+// The greatest `big_values`: pairs are within 576 lines.
 const BIG_LIMIT: u64 = 288;
 
-/// The greatest number of scale factor bands before region 2.
+// The greatest number of scale factor bands before region 2.
 const BANDS_LIMIT: u64 = 22;
 
-/// The fields of a unit as a number of 59 bits, the first field most significant.
+// The fields of a unit as a number of 59 bits, the first field most significant.
 pub(crate) fn unit_number(unit: &Unit) -> u64
     requires { HasFields unit.now }
     ensures { digits 59 result ≡ unit_side unit.now }
@@ -36,7 +36,7 @@ pub(crate) fn unit_number(unit: &Unit) -> u64
     ((size * 1_048_576 + tables) * 128 + regions) * 8 + quad
 }
 
-/// Whether a unit's number has fields of the profile.
+// Whether a unit's number has fields of the profile.
 pub(crate) fn passes(number: u64) -> bool
     ensures yes { result ≡ true → PassesRule (fields_in unit_widths number) }
     ensures no { result ≡ false → PassesRule (fields_in unit_widths number) → ⊥ }
@@ -49,7 +49,7 @@ pub(crate) fn passes(number: u64) -> bool
         && is_table(field(number, 10, 5) as u8)
 }
 
-/// Sets the fields of a blank unit to those of a number.
+// Sets the fields of a blank unit to those of a number.
 pub(crate) fn set_fields(unit: &mut Unit, number: u64)
     requires { unit.old ≡ blank }
     ensures { unit.new ≡ unit_from (fields_in unit_widths number) }
@@ -67,7 +67,7 @@ pub(crate) fn set_fields(unit: &mut Unit, number: u64)
     unit.quad = quad_table(field(number, 0, 1));
 }
 
-/// A unit that is zero in every field, with table A.
+// A unit that is zero in every field, with table A.
 pub(crate) fn blank_unit() -> Unit
     ensures { result ≡ blank }
 {
@@ -84,7 +84,7 @@ pub(crate) fn blank_unit() -> Unit
     }
 }
 
-/// Whether scalefac_compress, window_switching_flag, preflag and scalefac_scale are 0.
+// Whether scalefac_compress, window_switching_flag, preflag and scalefac_scale are 0.
 fn has_zero_fields(number: u64) -> bool
     ensures yes { result ≡ true → HasZeros (fields_in unit_widths number) }
     ensures no { result ≡ false → HasZeros (fields_in unit_widths number) → ⊥ }
@@ -95,7 +95,7 @@ fn has_zero_fields(number: u64) -> bool
         && field(number, 1, 1) == 0
 }
 
-/// The field of so many bits that has so many bits below it.
+// The field of so many bits that has so many bits below it.
 fn field(number: u64, below: u32, width: u32) -> u64
     requires below { below < 64 }
     requires width { width ≤ 12 }
@@ -105,7 +105,7 @@ fn field(number: u64, below: u32, width: u32) -> u64
     (number >> below) % (1 << width)
 }
 
-/// The table of a `count1table_select`.
+// The table of a `count1table_select`.
 fn quad_table(number: u64) -> QuadTable
     ensures { result ≡ quad_from number }
 {

@@ -32,7 +32,7 @@ pub fn write_side(settings: &Settings, frame: &ChosenFrame, out: &mut [u8; 32]) 
     }
 }
 
-/// Two units after the front.
+// Two units after the front.
 fn write_mono(frame: &ChosenFrame, out: &mut [u8])
     requires room { length out.old ≡ 17 }
     requires begin { frame.now.begin < 2 ^ 9 }
@@ -45,7 +45,7 @@ fn write_mono(frame: &ChosenFrame, out: &mut [u8])
     write_unit(&frame.units[1][0], out, 77);
 }
 
-/// Four units after the front.
+// Four units after the front.
 fn write_stereo(frame: &ChosenFrame, out: &mut [u8])
     requires room { length out.old ≡ 32 }
     requires begin { frame.now.begin < 2 ^ 9 }
@@ -60,7 +60,7 @@ fn write_stereo(frame: &ChosenFrame, out: &mut [u8])
     write_unit(&frame.units[1][1], out, 197);
 }
 
-/// `main_data_begin`, and zeros for private_bits and scfsi.
+// `main_data_begin`, and zeros for private_bits and scfsi.
 fn write_front(channels: Channels, begin: u16, out: &mut [u8])
     requires begin { begin < 2 ^ 9 }
     requires room { 3 ≤ length out.old }
@@ -72,7 +72,7 @@ fn write_front(channels: Channels, begin: u16, out: &mut [u8])
     }
 }
 
-/// The 59 bits of a unit, from bit `at` on.
+// The 59 bits of a unit, from bit `at` on.
 fn write_unit(unit: &Unit, out: &mut [u8], at: u64)
     requires fields { HasFields unit.now }
     requires within { at + 59 ≤ 8 * length out.old }

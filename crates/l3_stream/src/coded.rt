@@ -21,7 +21,7 @@ pub fn is_coded(settings: &Settings, frame: &ChosenFrame) -> bool
     is_coded_granule(settings, &frame.units[0]) && is_coded_granule(settings, &frame.units[1])
 }
 
-/// Whether both units of a granule are coded, or in mono the second is blank.
+// Whether both units of a granule are coded, or in mono the second is blank.
 fn is_coded_granule(settings: &Settings, units: &[Unit; 2]) -> bool
     ensures coded { result ≡ true → IsCodedGranule settings.now settings.now.channels units.now }
     ensures refused { result ≡ false → IsCodedGranule settings.now settings.now.channels units.now → ⊥ }
@@ -33,7 +33,7 @@ fn is_coded_granule(settings: &Settings, units: &[Unit; 2]) -> bool
     second && is_coded_unit(settings, &units[0])
 }
 
-/// Whether one channel of one granule is coded.
+// Whether one channel of one granule is coded.
 fn is_coded_unit(settings: &Settings, unit: &Unit) -> bool
     ensures coded { result ≡ true → IsCodedUnit settings.now unit.now }
     ensures refused { result ≡ false → IsCodedUnit settings.now unit.now → ⊥ }
@@ -50,7 +50,7 @@ fn is_coded_unit(settings: &Settings, unit: &Unit) -> bool
     }
 }
 
-/// The lines of the pairs.
+// The lines of the pairs.
 fn pair_lines(unit: &Unit) -> &[i16]
     requires { 2 * unit.now.big + 4 * unit.now.quads ≤ 576 }
     ensures value { result.now ≡ pairs_of unit.now }
@@ -59,7 +59,7 @@ fn pair_lines(unit: &Unit) -> &[i16]
     &unit.lines[..2 * usize::from(unit.big)]
 }
 
-/// The lines of the quadruples.
+// The lines of the quadruples.
 fn quad_lines(unit: &Unit) -> &[i16]
     requires { 2 * unit.now.big + 4 * unit.now.quads ≤ 576 }
     ensures value { result.now ≡ quads_of unit.now }
@@ -69,7 +69,7 @@ fn quad_lines(unit: &Unit) -> &[i16]
     &unit.lines[start..start + 4 * usize::from(unit.quads)]
 }
 
-/// The lines past pairs and quadruples.
+// The lines past pairs and quadruples.
 fn past_lines(unit: &Unit) -> &[i16]
     requires { 2 * unit.now.big + 4 * unit.now.quads ≤ 576 }
     ensures value { result.now ≡ drop (2 * unit.now.big + 4 * unit.now.quads) unit.now.lines }
@@ -79,7 +79,7 @@ fn past_lines(unit: &Unit) -> &[i16]
     &unit.lines[2 * usize::from(unit.big) + 4 * usize::from(unit.quads)..]
 }
 
-/// Whether the side information can say the unit's fields.
+// Whether the side information can say the unit's fields.
 fn has_fields(unit: &Unit) -> bool
     ensures fields { result ≡ true → HasFields unit.now }
     ensures refused { result ≡ false → HasFields unit.now → ⊥ }
@@ -94,7 +94,7 @@ fn has_fields(unit: &Unit) -> bool
         && is_table(unit.tables[2])
 }
 
-/// Whether pairs and quadruples are within the lines.
+// Whether pairs and quadruples are within the lines.
 fn has_places(unit: &Unit) -> bool
     ensures places { result ≡ true → 2 * unit.now.big + 4 * unit.now.quads ≤ 576 }
     ensures refused { result ≡ false → 2 * unit.now.big + 4 * unit.now.quads ≤ 576 → ⊥ }
@@ -102,14 +102,14 @@ fn has_places(unit: &Unit) -> bool
     2 * u32::from(unit.big) + 4 * u32::from(unit.quads) <= 576
 }
 
-/// Whether all lines are 0.
+// Whether all lines are 0.
 fn are_zero(lines: &[i16]) -> bool
     ensures { IsTrue result ↔ All (λ x. x ≡ pos 0) lines.now }
 {
     lines.iter().all(|x| *x == 0)
 }
 
-/// Whether a unit is zero in every field, with table A.
+// Whether a unit is zero in every field, with table A.
 fn is_blank(unit: &Unit) -> bool
     ensures blank { result ≡ true → unit.now ≡ blank }
     ensures refused { result ≡ false → unit.now ≡ blank → ⊥ }
@@ -117,7 +117,7 @@ fn is_blank(unit: &Unit) -> bool
     has_zero_fields(unit) && are_zero(&unit.lines)
 }
 
-/// Whether all fields are 0, and the table of the quadruples is A.
+// Whether all fields are 0, and the table of the quadruples is A.
 fn has_zero_fields(unit: &Unit) -> bool
     ensures fields { result ≡ true → HasZeroFields unit.now }
     ensures refused { result ≡ false → HasZeroFields unit.now → ⊥ }

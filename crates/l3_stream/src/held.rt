@@ -10,7 +10,7 @@ use crate::unit::Unit;
 use l3_base::Settings;
 use l3_huff::{QuadTable, holds, pair_bits, quad_bits};
 
-/// The bits of a unit's pairs, or nothing where a table does not hold its pair. `lines` are those of the pairs.
+// The bits of a unit's pairs, or nothing where a table does not hold its pair. `lines` are those of the pairs.
 pub(crate) fn bits_of_pairs(settings: &Settings, unit: &Unit, lines: &[i16]) -> Option<u32>
     requires fields { HasFields unit.now }
     requires pairs { length lines.now ≡ 2 * unit.now.big }
@@ -30,7 +30,7 @@ pub(crate) fn bits_of_pairs(settings: &Settings, unit: &Unit, lines: &[i16]) -> 
     Some(bits)
 }
 
-/// The bits of quadruples, or nothing where one holds more than 1. `lines` are those of the quadruples.
+// The bits of quadruples, or nothing where one holds more than 1. `lines` are those of the quadruples.
 pub(crate) fn bits_of_quads(table: QuadTable, count: u16, lines: &[i16]) -> Option<u32>
     requires whole { length lines.now ≡ 4 * count }
     requires places { 4 * count ≤ 576 }
@@ -53,7 +53,7 @@ pub(crate) fn bits_of_quads(table: QuadTable, count: u16, lines: &[i16]) -> Opti
     Some(bits)
 }
 
-/// `table_select` of the pair that begins at a line.
+// `table_select` of the pair that begins at a line.
 fn table_of(settings: &Settings, unit: &Unit, line: usize) -> u8
     requires { HasFields unit.now }
     ensures { result ≡ table_at settings.now unit.now line }
@@ -64,7 +64,7 @@ fn table_of(settings: &Settings, unit: &Unit, line: usize) -> u8
     unit.tables[region_of(line, first, second)]
 }
 
-/// The region of a line, where the regions 1 and 2 begin at these lines.
+// The region of a line, where the regions 1 and 2 begin at these lines.
 fn region_of(line: usize, first: usize, second: usize) -> usize
     ensures value { result ≡ (if nat_lt line first then 0 else if nat_lt line second then 1 else 2) }
     ensures within { result ≤ 2 }
@@ -78,7 +78,7 @@ fn region_of(line: usize, first: usize, second: usize) -> usize
     }
 }
 
-/// The first line of a scale factor band.
+// The first line of a scale factor band.
 fn first_line(settings: &Settings, band: usize) -> usize
     requires { band ≤ 22 }
     ensures { result ≡ edge settings.now band }
@@ -86,7 +86,7 @@ fn first_line(settings: &Settings, band: usize) -> usize
     usize::from(l3_tables::edge(settings.sample_rate.index(), band))
 }
 
-/// The bits of a pair's code, or nothing where the table does not hold it.
+// The bits of a pair's code, or nothing where the table does not hold it.
 fn bits_of_pair(table: u8, x: i16, y: i16) -> Option<u32>
     ensures value { IfSome result (λ bits. bits ≡ length (pair_code_of table x y)) }
     ensures held { IfSome result (λ _. HoldsPair table x y) }
@@ -102,7 +102,7 @@ fn bits_of_pair(table: u8, x: i16, y: i16) -> Option<u32>
     }
 }
 
-/// The bits of a quadruple's code, or nothing where it holds more than 1.
+// The bits of a quadruple's code, or nothing where it holds more than 1.
 fn bits_of_quad(table: QuadTable, quad: [i16; 4]) -> Option<u32>
     ensures value { IfSome result (λ bits. bits ≡ length (quad_code_of table quad)) }
     ensures held { IfSome result (λ _. IsQuad quad) }
@@ -116,7 +116,7 @@ fn bits_of_quad(table: QuadTable, quad: [i16; 4]) -> Option<u32>
     }
 }
 
-/// Whether four values are at most 1.
+// Whether four values are at most 1.
 fn is_quad(quad: &[i16]) -> bool
     requires { length quad.now ≡ 4 }
     ensures { IsTrue result ↔ IsQuad quad.now }

@@ -1,6 +1,6 @@
 //! The tables extended to all their entries, for reading in loops. [`crate::w`], [`crate::k64`] and [`crate::k72`] prove them to be what the printed ones stand for.
 
-/// All 512 entries of the window.
+// All 512 entries of the window.
 #[rattlefmt::skip]
 pub(crate) static WHOLE_WINDOW: [i32; 512] = [
     0, -1, -1, -1, -1, -1, -1, -2,
@@ -69,7 +69,7 @@ pub(crate) static WHOLE_WINDOW: [i32; 512] = [
     2, 2, 1, 1, 1, 1, 1, 1,
 ];
 
-/// The whole circle of 128 steps.
+// The whole circle of 128 steps.
 #[rattlefmt::skip]
 pub(crate) static CIRCLE64: [i32; 128] = [
     32768, 32729, 32610, 32413, 32138, 31786, 31357, 30853,
@@ -90,7 +90,7 @@ pub(crate) static CIRCLE64: [i32; 128] = [
     30274, 30853, 31357, 31786, 32138, 32413, 32610, 32729,
 ];
 
-/// The whole circle of 144 steps.
+// The whole circle of 144 steps.
 #[rattlefmt::skip]
 pub(crate) static CIRCLE72: [i32; 144] = [
     32768, 32737, 32643, 32488, 32270, 31991, 31651, 31251, 30792,

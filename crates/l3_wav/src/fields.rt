@@ -4,16 +4,16 @@ ghost use Rattle.l3_wav.specs.Wav.{u16_at, u32_at, is_extensible_pcm, is_pcm, ch
 use crate::WavFault;
 use l3_base::{Channels, SampleRate};
 
-/// The tag of PCM.
+// The tag of PCM.
 const PCM: u16 = 1;
 
-/// The tag of the extensible form, which has a subformat.
+// The tag of the extensible form, which has a subformat.
 const EXTENSIBLE: u16 = 0xFFFE;
 
-/// The subformat PCM.
+// The subformat PCM.
 const PCM_SUBFORMAT: [u8; 16] = *b"\x01\0\0\0\0\0\x10\0\x80\0\0\xAA\0\x38\x9B\x71";
 
-/// Bits of a sample.
+// Bits of a sample.
 const DEPTH: u16 = 16;
 
 /// What a format chunk says.

@@ -19,16 +19,16 @@ pub struct WavHead {
     pub data_bytes: u32,
 }
 
-/// The most bytes that may stand before the chunk `data`: this project's own.
+// The most bytes that may stand before the chunk `data`: this project's own.
 const HEAD_LIMIT: usize = 1048576;
 
-/// Bytes of the file's id, its size and its form.
+// Bytes of the file's id, its size and its form.
 const RIFF_BYTES: usize = 12;
 
-/// Bytes of a chunk's id and its size.
+// Bytes of a chunk's id and its size.
 const CHUNK_BYTES: usize = 8;
 
-/// Bytes of a format's body that have fields.
+// Bytes of a format's body that have fields.
 const FIELD_BYTES: usize = 40;
 
 // Whether a file that begins so is RIFF, of form WAVE.

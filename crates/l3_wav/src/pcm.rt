@@ -30,7 +30,7 @@ pub enum PcmFault {
     Memory,
 }
 
-/// Values that are read at a time: whole samples of one channel and of two.
+// Values that are read at a time: whole samples of one channel and of two.
 const BLOCK: usize = 2048;
 
 fn empty_block() -> [i16; BLOCK] {

@@ -6,7 +6,7 @@ ghost use Rattle.l3_wav.specs.Steps.{HasPassed, EndsWithin};
 use crate::WavFault;
 use l3_io::{Source, read_full};
 
-/// Bytes that are passed over at a time.
+// Bytes that are passed over at a time.
 const BLOCK: usize = 4096;
 
 // A block before it is read.

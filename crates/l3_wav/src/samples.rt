@@ -80,7 +80,7 @@ impl Samples {
     }
 }
 
-/// Bytes that are read at a time: whole samples of one channel and of two.
+// Bytes that are read at a time: whole samples of one channel and of two.
 const BLOCK: usize = 4096;
 
 // A block before it is read.

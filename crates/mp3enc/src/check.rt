@@ -15,7 +15,7 @@ use l3_reader::{StreamFault, read_stream};
 use l3_stream::{ChosenFrame, Unit};
 use std::alloc::Global;
 
-/// The most frames that a stream may have: the most that can be read, nine times those of the longest WAV file.
+// The most frames that a stream may have: the most that can be read, nine times those of the longest WAV file.
 const FRAMES_LIMIT: u32 = 16777216;
 
 // part2_3_length, which is a number of 16 bits here.
