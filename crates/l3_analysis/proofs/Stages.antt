@@ -6,7 +6,7 @@ use Rattle.l3_base.specs.declared.rate.SampleRate.{SampleRate}
 use Rattle.l3_base.specs.Rates.{hertz_index_of}
 use Rattle.l3_mdct.specs.Spectrum.{spectrum_of}
 use Rattle.l3_energy.specs.Demand.{demand_of}
-use Rattle.l3_count.specs.Bands.{edges_at}
+use Rattle.l3_count.specs.Bands.{band_edges}
 use Rattle.l3_count.specs.Memo.{IsMemoOf, no_counts}
 use Rattle.l3_count.proofs.Memos.{IsMemoOf-no_counts}
 use Rattle.l3_analysis.specs.declared.analysis.Analysis.{Analysis}
@@ -31,17 +31,17 @@ analysis-of_empty rate samples a spectrum demand empty =
     record {
       spectrum = spectrum;
       demand = demand;
-      memo = rw empty (IsMemoOf-no_counts (edges_at (hertz_index_of rate)) (spectrum_of samples));
+      memo = rw empty (IsMemoOf-no_counts (band_edges rate) (spectrum_of samples));
     }
 
 -- the same spectrum and demand with another memo of that spectrum
 pub analysis-with_memo : (rate : SampleRate) (samples : List ℤ) (a b : Analysis) → IsAnalysisOf rate samples a → b.spectrum ≡ a.spectrum → b.demand ≡ a.demand →
-    IsMemoOf (edges_at (hertz_index_of rate)) a.spectrum b.memo → IsAnalysisOf rate samples b
+    IsMemoOf (band_edges rate) a.spectrum b.memo → IsAnalysisOf rate samples b
 analysis-with_memo rate samples a b is spectrum demand memo =
     record {
       spectrum = spectrum ∙ is.spectrum;
       demand = demand ∙ is.demand;
-      memo = subst (λ (lines : List ℤ). IsMemoOf (edges_at (hertz_index_of rate)) lines b.memo) is.spectrum memo;
+      memo = subst (λ (lines : List ℤ). IsMemoOf (band_edges rate) lines b.memo) is.spectrum memo;
     }
 
 -- in mono the second channel stays as it is

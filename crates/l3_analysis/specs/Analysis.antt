@@ -8,7 +8,7 @@ use Rattle.l3_base.specs.declared.slots.Window.{Window}
 use Rattle.l3_base.specs.Rates.{hertz_index_of}
 use Rattle.l3_mdct.specs.Spectrum.{spectrum_of}
 use Rattle.l3_energy.specs.Demand.{demand_of}
-use Rattle.l3_count.specs.Bands.{edges_at}
+use Rattle.l3_count.specs.Bands.{band_edges}
 use Rattle.l3_count.specs.Memo.{IsMemoOf, no_counts}
 use Rattle.l3_analysis.specs.declared.analysis.Analysis.{Analysis}
 use Rattle.l3_analysis.specs.declared.stage.Stage.{Stage}
@@ -18,7 +18,7 @@ use Rattle.l3_analysis.specs.declared.stage.Stage.TheVariants.{Blank, Loaded, Tr
 pub record IsAnalysisOf (rate : SampleRate) (samples : List ℤ) (a : Analysis) : Type 0 where
   pub spectrum : a.spectrum ≡ spectrum_of samples
   pub demand : a.demand ≡ demand_of (hertz_index_of rate) (spectrum_of samples)
-  pub memo : IsMemoOf (edges_at (hertz_index_of rate)) (spectrum_of samples) a.memo
+  pub memo : IsMemoOf (band_edges rate) (spectrum_of samples) a.memo
 
 -- what holds of a channel that is there: the memo is empty before the spectrum is made
 abbrev pub IsAtStage : Stage → SampleRate → List ℤ → Analysis → Type 0

@@ -7,7 +7,7 @@ use Rattle.l3_base.specs.declared.slots.Window.{Window}
 use Rattle.l3_base.specs.Rates.{channels_of, hertz_index_of}
 use Rattle.l3_mdct.specs.Spectrum.{spectrum_of}
 use Rattle.l3_energy.specs.Demand.{demand_of}
-use Rattle.l3_count.specs.Bands.{edges_at}
+use Rattle.l3_count.specs.Bands.{band_edges}
 use Rattle.l3_count.specs.Count.{Counted}
 use Rattle.l3_count.specs.Memo.{IsMemoOf, no_counts}
 use Rattle.l3_analysis.specs.declared.stage.Stage.{Stage}
@@ -77,7 +77,7 @@ demand_in v channel = demand_of (hertz_index_of v.settings.sample_rate) (spectru
 
 -- the edges of the bands
 abbrev pub edges_in : PieceView → List ℕ
-edges_in v = edges_at (hertz_index_of v.settings.sample_rate)
+edges_in v = band_edges v.settings.sample_rate
 
 -- the memo of a channel
 abbrev pub memo_in : PieceView → ℕ → List (Option Counted)

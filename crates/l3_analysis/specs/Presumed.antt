@@ -4,8 +4,8 @@ use Rattle.std.specs.List.{sum}
 use Rattle.l3_reservoir.specs.Lengths.{mean_bits_of, mmax_of}
 use Rattle.l3_reservoir.specs.Budget.{budget_of, left_by}
 use Rattle.l3_base.specs.declared.settings.Settings.{Settings}
-use Rattle.l3_base.specs.Rates.{channels_of, hertz_index_of}
-use Rattle.l3_count.specs.Bands.{edges_at}
+use Rattle.l3_base.specs.Rates.{channels_of}
+use Rattle.l3_count.specs.Bands.{band_edges}
 use Rattle.l3_count.specs.Count.{Counted}
 use Rattle.l3_count.specs.Gains.{first_gain_of}
 use Rattle.l3_search.specs.Gain.{HasCountsTo, lacking, picked, picked_gain}
@@ -24,7 +24,7 @@ budget_under st frame reserve demand = budget_of reserve (mean_bits_of st frame)
 -- the reserve after it, which takes the bits of the count that is picked for that budget
 abbrev pub reserve_after : Settings → (frame reserve demand : ℕ) → List ℤ → ℕ
 reserve_after st frame reserve demand lines =
-    let edges = edges_at (hertz_index_of st.sample_rate) in
+    let edges = band_edges st.sample_rate in
     left_by reserve (mean_bits_of st frame) (bits_in (picked edges lines (budget_under st frame reserve demand)))
 
 -- the frame of a piece: it has two granules

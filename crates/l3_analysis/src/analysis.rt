@@ -2,7 +2,7 @@ ghost use Rattle.std.specs.Prelude.{◌≡◌, ◌≤◌, ◌<◌, ◌+◌, ◌^
 ghost use Rattle.l3_base.specs.Rates.{hertz_index_of};
 ghost use Rattle.l3_mdct.specs.Spectrum.{spectrum_of};
 ghost use Rattle.l3_energy.specs.Demand.{demand_of};
-ghost use Rattle.l3_count.specs.Bands.{edges_at};
+ghost use Rattle.l3_count.specs.Bands.{band_edges};
 ghost use Rattle.l3_count.specs.Gains.{first_gain_of};
 ghost use Rattle.l3_count.specs.Memo.{IsMemoOf, no_counts};
 ghost use Rattle.l3_search.specs.Gain.{HasCountsTo, lacking, picked, picked_gain};
@@ -56,15 +56,15 @@ impl Analysis {
         budget: u32,
         steps: &mut Steps<L>,
     ) -> Picked
-        requires memo { IsMemoOf (edges_at (hertz_index_of rate)) self.old.spectrum self.old.memo }
-        ensures count { picked (edges_at (hertz_index_of rate)) self.old.spectrum budget ≡ Some result.count }
-        ensures gain { result.count.gain ≡ picked_gain (edges_at (hertz_index_of rate)) self.old.spectrum budget }
+        requires memo { IsMemoOf (band_edges rate) self.old.spectrum self.old.memo }
+        ensures count { picked (band_edges rate) self.old.spectrum budget ≡ Some result.count }
+        ensures gain { result.count.gain ≡ picked_gain (band_edges rate) self.old.spectrum budget }
         ensures within { result.count.bits ≤ budget }
-        ensures made { result.made ≡ lacking self.old.memo (first_gain_of self.old.spectrum) (picked_gain (edges_at (hertz_index_of rate)) self.old.spectrum budget) }
+        ensures made { result.made ≡ lacking self.old.memo (first_gain_of self.old.spectrum) (picked_gain (band_edges rate) self.old.spectrum budget) }
         ensures limit { result.made ≤ 256 }
         ensures ticks { steps.new ≡ steps.old + result.made }
-        ensures memo { HasCountsTo (edges_at (hertz_index_of rate)) self.old.spectrum (first_gain_of self.old.spectrum) (picked_gain (edges_at (hertz_index_of rate)) self.old.spectrum budget) self.old.memo self.new.memo }
-        ensures kept { IsMemoOf (edges_at (hertz_index_of rate)) self.old.spectrum self.new.memo }
+        ensures memo { HasCountsTo (band_edges rate) self.old.spectrum (first_gain_of self.old.spectrum) (picked_gain (band_edges rate) self.old.spectrum budget) self.old.memo self.new.memo }
+        ensures kept { IsMemoOf (band_edges rate) self.old.spectrum self.new.memo }
         ensures spectrum { self.new.spectrum ≡ self.old.spectrum }
         ensures demand { self.new.demand ≡ self.old.demand }
     {
@@ -81,12 +81,12 @@ impl Analysis {
     )
         requires frame { frame ≤ 2 ^ 32 }
         requires reserve { reserve.old < 2 ^ 33 }
-        requires memo { IsMemoOf (edges_at (hertz_index_of settings.now.sample_rate)) self.old.spectrum self.old.memo }
+        requires memo { IsMemoOf (band_edges settings.now.sample_rate) self.old.spectrum self.old.memo }
         ensures reserve { reserve.new ≡ reserve_after settings.now frame reserve.old self.old.demand self.old.spectrum }
         ensures bound { reserve.new < reserve.old + 2 ^ 32 }
-        ensures ticks { steps.new ≡ steps.old + lacking self.old.memo (first_gain_of self.old.spectrum) (picked_gain (edges_at (hertz_index_of settings.now.sample_rate)) self.old.spectrum (budget_under settings.now frame reserve.old self.old.demand)) }
-        ensures memo { HasCountsTo (edges_at (hertz_index_of settings.now.sample_rate)) self.old.spectrum (first_gain_of self.old.spectrum) (picked_gain (edges_at (hertz_index_of settings.now.sample_rate)) self.old.spectrum (budget_under settings.now frame reserve.old self.old.demand)) self.old.memo self.new.memo }
-        ensures kept { IsMemoOf (edges_at (hertz_index_of settings.now.sample_rate)) self.old.spectrum self.new.memo }
+        ensures ticks { steps.new ≡ steps.old + lacking self.old.memo (first_gain_of self.old.spectrum) (picked_gain (band_edges settings.now.sample_rate) self.old.spectrum (budget_under settings.now frame reserve.old self.old.demand)) }
+        ensures memo { HasCountsTo (band_edges settings.now.sample_rate) self.old.spectrum (first_gain_of self.old.spectrum) (picked_gain (band_edges settings.now.sample_rate) self.old.spectrum (budget_under settings.now frame reserve.old self.old.demand)) self.old.memo self.new.memo }
+        ensures kept { IsMemoOf (band_edges settings.now.sample_rate) self.old.spectrum self.new.memo }
         ensures spectrum { self.new.spectrum ≡ self.old.spectrum }
         ensures demand { self.new.demand ≡ self.old.demand }
     {

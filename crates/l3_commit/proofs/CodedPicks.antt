@@ -9,18 +9,19 @@ use Rattle.l3_quant.specs.Quantiser.{IsCodable, magnitude, quantised_lines}
 use Rattle.l3_search.specs.Gain.{picked, picked_gain}
 use Rattle.l3_search.proofs.Fits.{counted_at, pick_there}
 use Rattle.l3_stream.specs.Units.{IsCodedUnit}
-use Rattle.l3_commit.specs.Units.{ChosenUnitsAreCoded, IsCountIn, edges_of, unit_of, unit_within}
+use Rattle.l3_commit.specs.Units.{ChosenUnitsAreCoded, IsCountIn, unit_of, unit_within}
+use Rattle.l3_tables.specs.Bands.{band_edges}
 use Rattle.l3_commit.proofs.CodedUnits.{coded_at_gain}
 
 -- what is picked: the gain is one of 0 to 255, the spectrum is codable there, and its count is within the budget
 record IsWithin (st : Settings) (budget : ℕ) (lines : List ℤ) : Type 0 where
-  pub most : picked_gain (edges_of st) lines budget ≤ 255
-  pub codable : IsCodable (pos (picked_gain (edges_of st) lines budget)) lines
-  pub few : (counted (edges_of st) (picked_gain (edges_of st) lines budget) (quantised_lines (pos (picked_gain (edges_of st) lines budget)) lines)).bits ≤ budget
+  pub most : picked_gain (band_edges st.sample_rate) lines budget ≤ 255
+  pub codable : IsCodable (pos (picked_gain (band_edges st.sample_rate) lines budget)) lines
+  pub few : (counted (band_edges st.sample_rate) (picked_gain (band_edges st.sample_rate) lines budget) (quantised_lines (pos (picked_gain (band_edges st.sample_rate) lines budget)) lines)).bits ≤ budget
 
 picked_within : (st : Settings) (budget : ℕ) (lines : List ℤ) → All IsLine lines → IsWithin st budget lines
 picked_within st budget lines small =
-    let edges = edges_of st in
+    let edges = band_edges st.sample_rate in
     let found = pick_there edges lines budget small in
     let c = found.0 in
     let says = count_of-says edges lines (picked_gain edges lines budget) c found.1.count in
@@ -36,17 +37,17 @@ unfolding unit_within
 coded_within st budget lines small long le =
     let is = picked_within st budget lines small in
     let few = is.few in
-    coded_at_gain st (picked_gain (edges_of st) lines budget) lines long is.most is.codable (omega arith)
+    coded_at_gain st (picked_gain (band_edges st.sample_rate) lines budget) lines long is.most is.codable (omega arith)
 
 pub bits_within : (st : Settings) (budget : ℕ) (lines : List ℤ) → All IsLine lines → (unit_within st budget lines).length ≤ budget
 unfolding unit_within
 bits_within st budget lines small = (picked_within st budget lines small).few
 
-gain_within : (st : Settings) (budget : ℕ) (lines : List ℤ) → (unit_within st budget lines).gain ≡ picked_gain (edges_of st) lines budget
+gain_within : (st : Settings) (budget : ℕ) (lines : List ℤ) → (unit_within st budget lines).gain ≡ picked_gain (band_edges st.sample_rate) lines budget
 unfolding unit_within counted
 gain_within st budget lines = refl
 
-lines_within : (st : Settings) (budget : ℕ) (lines : List ℤ) → (unit_within st budget lines).lines ≡ quantised_lines (pos (picked_gain (edges_of st) lines budget)) lines
+lines_within : (st : Settings) (budget : ℕ) (lines : List ℤ) → (unit_within st budget lines).lines ≡ quantised_lines (pos (picked_gain (band_edges st.sample_rate) lines budget)) lines
 unfolding unit_within
 lines_within st budget lines = refl
 
@@ -80,11 +81,11 @@ count_in-small lines c gain own e above =
     omega (arith, above.4)
 
 -- the unit of the picked count is the unit within the budget
-pub unit_of_picked : (st : Settings) (budget : ℕ) (lines : List ℤ) (c : Counted) → picked (edges_of st) lines budget ≡ Some c →
+pub unit_of_picked : (st : Settings) (budget : ℕ) (lines : List ℤ) (c : Counted) → picked (band_edges st.sample_rate) lines budget ≡ Some c →
     unit_of c (quantised_lines (pos c.gain) lines) ≡ unit_within st budget lines
 unfolding unit_within
 unit_of_picked st budget lines c e =
-    let edges = edges_of st in
+    let edges = band_edges st.sample_rate in
     let gain = picked_gain edges lines budget in
     let q = quantised_lines (pos gain) lines in
     let at = counted_at edges lines gain c e in

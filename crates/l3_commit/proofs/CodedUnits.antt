@@ -16,13 +16,14 @@ use Rattle.l3_region.specs.Laws.{HoldsAll, MayTake, pairs_taken}
 use Rattle.l3_region.specs.Regions.{pair_bits_in, quad_bits_in, regions_of}
 use Rattle.l3_region.specs.Split.{end_of_pairs, is_zero_from, quad_values_of, split_of, zero_from}
 use Rattle.l3_region.specs.declared.split.Split.{Split}
-use Rattle.l3_region.proofs.Edges.{edge_even, edge_order, index_small}
+use Rattle.l3_tables.proofs.Edges.{edge_even, edge_order, index_small}
 use Rattle.l3_region.proofs.Slices.{length-slice, slice_range-split}
 use Rattle.l3_region.proofs.SplitLemmas.{split_ones, split_places, split_within, zero_past, zeros-all}
 use Rattle.l3_stream.specs.Units.{IsCodedUnit, edge, pairs_of, quads_of, table_at, zero_lines}
 use Rattle.l3_stream.specs.declared.unit.Unit.{Unit}
 use Rattle.l3_stream.proofs.Shapes.{unit_length, zeros_of_count}
-use Rattle.l3_commit.specs.Units.{edges_of, unit_at_gain, unit_of}
+use Rattle.l3_commit.specs.Units.{unit_at_gain, unit_of}
+use Rattle.l3_tables.specs.Bands.{band_edges}
 use Rattle.l3_commit.proofs.CodedLines.{ArePairs, AreQuads, HasTable, pairs_in_table, pairs_joined, quads_of_ones}
 
 -- ---- the regions of lines
@@ -102,8 +103,8 @@ even_min a b one two = elim (cases_lt a b) [
 
 -- the pairs of a unit whose regions and tables may be taken
 pub pairs_of_count : (st : Settings) (u : Unit) (q : List ℤ) → length q ≡ 576 →
-    MayTake (edges_of st) q u.region0 u.region1 (get_or u.tables 0 0) (get_or u.tables 1 0) (get_or u.tables 2 0) →
-    ArePairs (table_at st u) 0 (take (end_of_pairs q) q) (pairs_taken (edges_of st) q u.region0 u.region1 (get_or u.tables 0 0) (get_or u.tables 1 0) (get_or u.tables 2 0))
+    MayTake (band_edges st.sample_rate) q u.region0 u.region1 (get_or u.tables 0 0) (get_or u.tables 1 0) (get_or u.tables 2 0) →
+    ArePairs (table_at st u) 0 (take (end_of_pairs q) q) (pairs_taken (band_edges st.sample_rate) q u.region0 u.region1 (get_or u.tables 0 0) (get_or u.tables 1 0) (get_or u.tables 2 0))
 unfolding edge_at
 pairs_of_count st u q long may =
     let rate = hertz_index_of st.sample_rate in
@@ -170,7 +171,7 @@ quads_of_count q big quads one two =
 -- ---- the unit
 
 -- the unit of a count and of the values that it counts, at most 4095 bits of them
-pub coded_of_count : (st : Settings) (q : List ℤ) (gain : ℕ) (c : Counted) → length q ≡ 576 → gain ≤ 255 → c.bits ≤ 4095 → length c.tables ≡ 3 → IsCountOf (edges_of st) q gain c →
+pub coded_of_count : (st : Settings) (q : List ℤ) (gain : ℕ) (c : Counted) → length q ≡ 576 → gain ≤ 255 → c.bits ≤ 4095 → length c.tables ≡ 3 → IsCountOf (band_edges st.sample_rate) q gain c →
     IsCodedUnit st (unit_of c q)
 unfolding pairs_of quads_of
 coded_of_count st q gain c long most few three is =
@@ -185,7 +186,7 @@ coded_of_count st q gain c long most few three is =
     let places : 2 * c.big + 4 * c.quads ≤ 576 = omega (arith, split_within q) in
     let bits = is.bits_are in
     let own = pairs_of_count st u q long may in
-    let taken = pairs_taken (edges_of st) q c.region0 c.region1 (get_or c.tables 0 0) (get_or c.tables 1 0) (get_or c.tables 2 0) in
+    let taken = pairs_taken (band_edges st.sample_rate) q c.region0 c.region1 (get_or c.tables 0 0) (get_or c.tables 1 0) (get_or c.tables 2 0) in
     let end : end_of_pairs q ≡ 2 * c.big = omega arith in
     let pairs : ArePairs (table_at st u) 0 (pairs_of u) taken = subst (λ n. ArePairs (table_at st u) 0 (take n q) taken) end own in
     let ones : AreQuads c.quad (quad_values_of q) = quads_of_ones c.quad (split_of q).quads (quad_values_of q) (quad_values-long q long) (split_ones q) in
@@ -227,9 +228,9 @@ quantised-long gain lines long = length-map lines (quantised (pos gain)) ∙ lon
 
 -- at a gain where the spectrum is codable
 pub coded_at_gain : (st : Settings) (gain : ℕ) (lines : List ℤ) → length lines ≡ 576 → gain ≤ 255 → IsCodable (pos gain) lines →
-    (counted (edges_of st) gain (quantised_lines (pos gain) lines)).bits ≤ 4095 → IsCodedUnit st (unit_at_gain st gain lines)
+    (counted (band_edges st.sample_rate) gain (quantised_lines (pos gain) lines)).bits ≤ 4095 → IsCodedUnit st (unit_at_gain st gain lines)
 coded_at_gain st gain lines long most codable few =
-    let edges = edges_of st in
+    let edges = band_edges st.sample_rate in
     let q = quantised_lines (pos gain) lines in
     coded_of_count st q gain (counted edges gain q) (quantised-long gain lines long) most few (three_tables edges gain q)
     (what_is_taken edges lines gain (counted edges gain q) (count_of-some edges lines gain codable))

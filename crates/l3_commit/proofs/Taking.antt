@@ -9,7 +9,8 @@ use Rattle.l3_reservoir.specs.Budget.{left_by}
 use Rattle.l3_search.specs.Gain.{tried_of}
 use Rattle.l3_stream.specs.declared.unit.Unit.{Unit}
 use Rattle.l3_stream.specs.Frames.{blank}
-use Rattle.l3_commit.specs.Units.{edges_of, unit_within}
+use Rattle.l3_commit.specs.Units.{unit_within}
+use Rattle.l3_tables.specs.Bands.{band_edges}
 use Rattle.l3_commit.specs.Choice.{budget_at, unit_chosen, after_unit, granule_by, reserve_by, granule_chosen, after_granule}
 use Rattle.l3_commit.specs.Tried.{unit_tried, tried_by, granule_tried}
 
@@ -20,14 +21,14 @@ pub record IsTaken (st : Settings) (n reserve : ℕ) (lines : List ℤ) (u : Uni
   pub tried_is : tried ≡ unit_tried st n reserve lines
 
 pub unit-taken : (st : Settings) (n reserve budget : ℕ) (lines : List ℤ) (u : Unit) (after tried : ℕ) → budget ≡ budget_at st n reserve lines → u ≡ unit_within st budget lines
-    → after ≡ left_by reserve (mean_bits_of st n) u.length → tried ≡ tried_of (edges_of st) lines budget → IsTaken st n reserve lines u after tried
+    → after ≡ left_by reserve (mean_bits_of st n) u.length → tried ≡ tried_of (band_edges st.sample_rate) lines budget → IsTaken st n reserve lines u after tried
 unfolding after_unit unit_tried
 unit-taken st n reserve budget lines u after tried budget_is unit_is after_is tried_is =
     let is : u ≡ unit_chosen st n reserve lines = unit_is ∙ ap (λ k. unit_within st k lines) budget_is in
     record {
       unit_is = is;
       after_is = after_is ∙ ap (λ (v : Unit). left_by reserve (mean_bits_of st n) v.length) is;
-      tried_is = tried_is ∙ ap (λ k. tried_of (edges_of st) lines k) budget_is;
+      tried_is = tried_is ∙ ap (λ k. tried_of (band_edges st.sample_rate) lines k) budget_is;
     }
 
 pub both-set : {A : Type 0} (us : List A) (u v : A) → length us ≡ 2 → slice_set (slice_set us 0 u) 1 v ≡ u ∷ v ∷ []

@@ -4,12 +4,12 @@ use Rattle.l3_base.specs.declared.settings.Settings.{Settings}
 use Rattle.l3_base.specs.declared.rate.Channels.{Channels}
 use Rattle.l3_base.specs.declared.rate.Channels.TheVariants.{Mono, Stereo}
 use Rattle.l3_search.specs.Gain.{tried_of}
-use Rattle.l3_commit.specs.Units.{edges_of}
+use Rattle.l3_tables.specs.Bands.{band_edges}
 use Rattle.l3_commit.specs.Choice.{Spectra, budget_at, after_unit, reserve_at_start, reserve_between, begin_before}
 
 -- at a unit of frame n
 unfoldable pub unit_tried : Settings → (n reserve : ℕ) → List ℤ → ℕ
-unit_tried st n reserve lines = tried_of (edges_of st) lines (budget_at st n reserve lines)
+unit_tried st n reserve lines = tried_of (band_edges st.sample_rate) lines (budget_at st n reserve lines)
 
 -- at a granule of frame n
 abbrev pub tried_by : Channels → Settings → (n reserve : ℕ) → (ℕ → List ℤ) → ℕ

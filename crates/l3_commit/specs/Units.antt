@@ -1,18 +1,13 @@
 -- What a unit takes within a budget: the count at the picked gain, and the quantised values that it counts.
 use Rattle.std.specs.Prelude.{◌≡◌, ◌≤◌, ℕ, List, length, Some, ℤ, pos, All}
-use Rattle.l3_base.specs.Rates.{hertz_index_of}
 use Rattle.l3_base.specs.Spectrum.{IsLine}
 use Rattle.l3_base.specs.declared.settings.Settings.{Settings}
 use Rattle.l3_count.specs.Count.{Counted, count_of, counted}
-use Rattle.l3_search.specs.Bands.{edges_at}
+use Rattle.l3_tables.specs.Bands.{band_edges}
 use Rattle.l3_search.specs.Quantiser.{quantised_lines}
 use Rattle.l3_search.specs.Gain.{picked_gain}
 use Rattle.l3_stream.specs.Units.{IsCodedUnit}
 use Rattle.l3_stream.specs.declared.unit.Unit.{Unit}
-
--- the edges of the bands at the settings' sampling frequency
-abbrev pub edges_of : Settings → List ℕ
-edges_of st = edges_at (hertz_index_of st.sample_rate)
 
 -- the unit of a count and of the quantised values that it counts
 abbrev pub unit_of : Counted → List ℤ → Unit
@@ -30,11 +25,11 @@ unit_of c values = record {
 
 -- the unit of a spectrum's lines at a gain
 abbrev pub unit_at_gain : Settings → ℕ → List ℤ → Unit
-unit_at_gain st gain lines = unit_of (counted (edges_of st) gain (quantised_lines (pos gain) lines)) (quantised_lines (pos gain) lines)
+unit_at_gain st gain lines = unit_of (counted (band_edges st.sample_rate) gain (quantised_lines (pos gain) lines)) (quantised_lines (pos gain) lines)
 
 -- the unit of a spectrum's lines within a budget: at the least gain whose count is within it
 unfoldable pub unit_within : Settings → ℕ → List ℤ → Unit
-unit_within st budget lines = unit_at_gain st (picked_gain (edges_of st) lines budget) lines
+unit_within st budget lines = unit_at_gain st (picked_gain (band_edges st.sample_rate) lines budget) lines
 
 -- a count is one of a spectrum at its own gain, for the edges of some bands
 abbrev pub IsCountIn : List ℤ → Counted → Type 0
@@ -44,7 +39,7 @@ IsCountIn lines c = (edges : List ℕ) × (count_of edges lines c.gain ≡ Some 
 pub record IsChosenUnit (st : Settings) (budget : ℕ) (lines : List ℤ) (u : Unit) : Type 0 where
   pub coded : IsCodedUnit st u
   pub within : u.length ≤ budget
-  pub gain_is : u.gain ≡ picked_gain (edges_of st) lines budget
+  pub gain_is : u.gain ≡ picked_gain (band_edges st.sample_rate) lines budget
   pub lines_are : u.lines ≡ quantised_lines (pos u.gain) lines
 
 -- the unit of each spectrum within each budget that the field of part2_3_length has room for

@@ -5,7 +5,8 @@ ghost use Rattle.l3_reservoir.specs.Budget.{left_by};
 ghost use Rattle.l3_stream.specs.Units.{zero_lines};
 ghost use Rattle.l3_stream.specs.Frames.{blank};
 ghost use Rattle.l3_search.specs.Gain.{tried_of};
-ghost use Rattle.l3_commit.specs.Units.{edges_of, unit_within};
+ghost use Rattle.l3_commit.specs.Units.{unit_within};
+ghost use Rattle.l3_tables.specs.Bands.{band_edges};
 ghost use Rattle.l3_commit.specs.Choice.{budget_at, unit_chosen, after_unit, granule_chosen, after_granule, AreOfChannels};
 ghost use Rattle.l3_commit.specs.Tried.{unit_tried, granule_tried};
 ghost use Rattle.l3_commit.specs.Encoding.{of_channel};
@@ -75,7 +76,7 @@ fn choose<L: Ledger + Send>(
     ensures spectrum { IsSpectrum spec.now }
     ensures rest { reserve.new ≡ left_by reserve.old (mean_bits_of place.settings place.frame) unit.new.length }
     ensures small { reserve.new < reserve.old + 2 ^ 32 }
-    ensures tried { result ≡ tried_of (edges_of place.settings) spec.now budget }
+    ensures tried { result ≡ tried_of (band_edges place.settings.sample_rate) spec.now budget }
     ensures few { result ≤ 256 }
     ensures ticks { steps.new ≡ steps.old + result }
 {

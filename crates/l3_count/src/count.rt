@@ -1,6 +1,5 @@
 ghost use Rattle.std.specs.Prelude.{◌≡◌, ◌≤◌, ◌<◌, ◌+◌, ◌*◌, ℕ, ℤ, List, length, slice_index};
-ghost use Rattle.l3_base.specs.Rates.{hertz_index_of};
-ghost use Rattle.l3_region.specs.Bands.{edges_at};
+ghost use Rattle.l3_region.specs.Bands.{band_edges};
 ghost use Rattle.l3_region.specs.Cut.{AreCutOf};
 ghost use Rattle.l3_huff.specs.Tables.{IsTable};
 
@@ -79,8 +78,8 @@ impl Count {
 
     // The count at a gain of quantised values that are known by their absolute values cut at 15 and by the greatest one of each band.
     pub(crate) fn of_cut(cut: &[u8; 576], peaks: &[u16; 22], rate: SampleRate, gain: u8) -> Count
-        requires { (q : List ℤ) × AreCutOf (edges_at (hertz_index_of rate)) q cut.now peaks.now }
-        ensures { (q : List ℤ) → AreCutOf (edges_at (hertz_index_of rate)) q cut.now peaks.now → result ≡ counted (edges_at (hertz_index_of rate)) gain q }
+        requires { (q : List ℤ) × AreCutOf (band_edges rate) q cut.now peaks.now }
+        ensures { (q : List ℤ) → AreCutOf (band_edges rate) q cut.now peaks.now → result ≡ counted (band_edges rate) gain q }
     {
         let (split, regions) = best_of_cut(cut, peaks, rate);
         let tables = regions.tables;

@@ -1,8 +1,7 @@
 ghost use Rattle.std.specs.Prelude.{◌≡◌, ◌+◌, ◌<◌, Any, IfNone, IfSome, pos, replicate};
-ghost use Rattle.l3_base.specs.Rates.{hertz_index_of};
 ghost use Rattle.l3_quant.specs.Quantiser.{IsCodable, magnitude};
 ghost use Rattle.l3_quant.specs.Magnitudes.{AreLinePeaks};
-ghost use Rattle.l3_region.specs.Bands.{edges_at};
+ghost use Rattle.l3_region.specs.Bands.{band_edges};
 ghost use Rattle.l3_count.specs.Count.{count_of};
 
 use crate::count::Count;
@@ -33,7 +32,7 @@ pub fn count_at<L: Ledger + Send>(
     gain: u8,
     steps: &mut Steps<L>,
 ) -> Option<Count>
-    ensures value { result ≡ count_of (edges_at (hertz_index_of rate)) spec.now gain }
+    ensures value { result ≡ count_of (band_edges rate) spec.now gain }
     ensures some { IfSome result (λ c. IsCodable (pos gain) spec.now) }
     ensures none { IfNone result (Any (λ x. 8191 < magnitude (pos gain) x) spec.now) }
     ensures ticks { steps.new ≡ steps.old + 1 }
@@ -49,8 +48,8 @@ pub fn count_with<L: Ledger + Send>(
     gain: u8,
     steps: &mut Steps<L>,
 ) -> Option<Count>
-    requires peaks { AreLinePeaks (edges_at (hertz_index_of rate)) spec.now peaks.now }
-    ensures value { result ≡ count_of (edges_at (hertz_index_of rate)) spec.now gain }
+    requires peaks { AreLinePeaks (band_edges rate) spec.now peaks.now }
+    ensures value { result ≡ count_of (band_edges rate) spec.now gain }
     ensures some { IfSome result (λ c. IsCodable (pos gain) spec.now) }
     ensures none { IfNone result (Any (λ x. 8191 < magnitude (pos gain) x) spec.now) }
     ensures ticks { steps.new ≡ steps.old + 1 }

@@ -107,7 +107,7 @@ unfolding units_of blank_granule
 units-number Mono = refl
 units-number Stereo = refl
 
-header-length : (st : Settings) (padded : Bool) → length (header_bits st padded false) ≡ 8 * 4
+header-length : (st : Settings) (padded : Bool) → length (header_bits st padded false false) ≡ 8 * 4
 header-length st padded = refl
 
 head_bytes-is : (ch : Channels) → head_bytes_of ch ≡ 4 + side_bytes ch
@@ -138,7 +138,7 @@ unfolding head_of header_at silent_frame silent_chosen
 frame-silent st n =
     let us = units_of st.channels (blank_granule ∷ blank_granule ∷ []) in
     let long : frame_bytes_of st n ≡ 4 + side_bytes st.channels + slot_bytes_of st n = omega (arith, head_bytes-is st.channels, (slot_range st n).above) in
-    packed-frame (header_bits st (is_padded st n) false) (side_bits st.channels (begin_of st n) us) (begin_of st n) (side_bytes st.channels) (slot_bytes_of st n) (frame_bytes_of st n)
+    packed-frame (header_bits st (is_padded st n) false false) (side_bits st.channels (begin_of st n) us) (begin_of st n) (side_bytes st.channels) (slot_bytes_of st n) (frame_bytes_of st n)
     (header-length st (is_padded st n)) (side-length st.channels (begin_of st n) us (units-number st.channels)) (side-by st.channels (begin_of st n)) (side_bytes-least st.channels) long
 
 -- ---- all frames

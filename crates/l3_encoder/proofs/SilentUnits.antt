@@ -20,7 +20,8 @@ use Rattle.l3_search.proofs.Fits.{picked_gain-is}
 use Rattle.l3_stream.specs.declared.unit.Unit.{Unit}
 use Rattle.l3_stream.specs.Units.{zero_lines}
 use Rattle.l3_stream.specs.Frames.{blank}
-use Rattle.l3_commit.specs.Units.{edges_of, unit_of, unit_at_gain, unit_within}
+use Rattle.l3_commit.specs.Units.{unit_of, unit_at_gain, unit_within}
+use Rattle.l3_tables.specs.Bands.{band_edges}
 use Rattle.l3_encoder.specs.Silent.{AreZero}
 
 -- ---- the quantised values
@@ -128,5 +129,5 @@ gain-zero edges budget =
 pub unit-blank : (st : Settings) (budget : ℕ) → unit_within st budget (zero_lines 576) ≡ blank
 unfolding unit_within
 unit-blank st budget =
-    ap (λ g. unit_at_gain st g (zero_lines 576)) (gain-zero (edges_of st) budget)
-    ∙ (ap (λ q. unit_of (counted (edges_of st) 0 q) q) quantised-lines ∙ unit-zero (edges_of st))
+    ap (λ g. unit_at_gain st g (zero_lines 576)) (gain-zero (band_edges st.sample_rate) budget)
+    ∙ (ap (λ q. unit_of (counted (band_edges st.sample_rate) 0 q) q) quantised-lines ∙ unit-zero (band_edges st.sample_rate))

@@ -13,7 +13,7 @@ begin_of st (suc n) = min (begin_of st n + slot_bytes_of st n) (mmax_of st)
 
 -- the bits of a frame: its header, main_data_begin in 9 bits, and zeros up to the frame's length
 abbrev pub silent_bits : Settings → ℕ → List Bool
-silent_bits st n = header_bits st (is_padded st n) false ++ digits 9 (begin_of st n) ++ replicate (8 * frame_bytes_of st n - (32 + 9)) false
+silent_bits st n = header_bits st (is_padded st n) false false ++ digits 9 (begin_of st n) ++ replicate (8 * frame_bytes_of st n - (32 + 9)) false
 
 -- the bytes of a frame
 unfoldable pub silent_frame : Settings → ℕ → List ℕ

@@ -10,35 +10,13 @@ use Rattle.std.proofs.lemmas.List.Elements.{All-from_get_or}
 use Rattle.std.proofs.lemmas.List.Folds.{drop_split, list_all-append}
 use Rattle.std.proofs.Common.{take-append-drop}
 use Rattle.l3_base.specs.declared.rate.SampleRate.{SampleRate}
-use Rattle.l3_base.specs.declared.rate.SampleRate.TheVariants.{Hz44100, Hz48000, Hz32000}
 use Rattle.l3_base.specs.Rates.{hertz_index_of}
-use Rattle.l3_tables.specs.Bands.{edge_at, edges_at}
-use Rattle.l3_tables.proofs.Entries.{ordered_at}
+use Rattle.l3_tables.specs.Bands.{edge_at, edges_at, band_edges}
+use Rattle.l3_tables.proofs.Edges.{edge_first, edge_last, edge_rises, index_small}
 use Rattle.l3_tables.proofs.ListLemmas.{filled_more}
 use Rattle.l3_quant.specs.Quantiser.{IsCodable, magnitude, magnitude_at, steps_of}
 use Rattle.l3_quant.specs.Magnitudes.{AreLinePeaks, ArePeaks}
 use Rattle.l3_quant.proofs.Codable.{codable_is_tested, magnitude_at-rises, magnitude_at-zero}
-
--- ---- edges
-
-pub edge_rises : (rate band : ℕ) → rate < 3 → band < 22 → edge_at rate band < edge_at rate (band + 1)
-unfolding edge_at edges_at
-edge_rises zero band _ lt = ordered_at (edge_at 0) (λ k. edge_at 0 (k + 1)) 22 band refl lt
-edge_rises (suc zero) band _ lt = ordered_at (edge_at 1) (λ k. edge_at 1 (k + 1)) 22 band refl lt
-edge_rises (suc (suc zero)) band _ lt = ordered_at (edge_at 2) (λ k. edge_at 2 (k + 1)) 22 band refl lt
-edge_rises (suc (suc (suc n))) band none _ = absurd (omega arith)
-
-pub edge_ends : (rate : ℕ) → rate < 3 → (edge_at rate 0 ≡ 0) × (edge_at rate 22 ≡ 576)
-unfolding edge_at edges_at
-edge_ends zero _ = (refl, refl)
-edge_ends (suc zero) _ = (refl, refl)
-edge_ends (suc (suc zero)) _ = (refl, refl)
-edge_ends (suc (suc (suc n))) none = absurd (omega arith)
-
-pub index_small : (rate : SampleRate) → hertz_index_of rate < 3
-index_small Hz44100 = omega arith
-index_small Hz48000 = omega arith
-index_small Hz32000 = omega arith
 
 -- ---- a test of all
 
@@ -129,7 +107,7 @@ line_peaks_more frequency lines band peaks p lt before small is = record {
 }
 
 pub line_peaks_are : (frequency : ℕ) (rate : SampleRate) (lines spec : List ℤ) (peaks : List ℕ) → length spec ≡ 576 → lines ≡ spec → frequency ≡ hertz_index_of rate →
-    LinePeaksSoFar frequency lines 22 peaks → AreLinePeaks (edges_at (hertz_index_of rate)) spec peaks
+    LinePeaksSoFar frequency lines 22 peaks → AreLinePeaks (band_edges rate) spec peaks
 unfolding edge_at
 line_peaks_are frequency rate lines spec peaks long same index so_far =
     let P : List ℤ → Type 0 = λ xs. LinePeaksSoFar frequency xs 22 peaks in
@@ -158,16 +136,16 @@ peaks_more h lines band out n lt before bound is = record {
 pub bands_cover : (p : ℤ → Bool) (rate : ℕ) (xs : List ℤ) → rate < 3 → length xs ≡ 576 →
     ((b : ℕ) → b < 22 → list_all p (slice_range xs (edge_at rate b) (edge_at rate (b + 1))) ≡ true) → list_all p xs ≡ true
 bands_cover p rate xs small long each =
-    let front : take (edge_at rate 22) xs ≡ xs = ap (λ n. take n xs) ((edge_ends rate small).1 ∙ sym long) ∙ take-length xs in
+    let front : take (edge_at rate 22) xs ≡ xs = ap (λ n. take n xs) (edge_last rate small ∙ sym long) ∙ take-length xs in
     ap (list_all p) (sym front) ∙ fronts 22 (omega arith)
   where
     fronts : (k : ℕ) → k ≤ 22 → list_all p (take (edge_at rate k) xs) ≡ true
-    fronts zero le = rw (edge_ends rate small).0 refl
+    fronts zero le = rw (edge_first rate small) refl
     fronts (suc k) le = let next : suc k ≡ k + 1 = omega arith in rw next (front_more p xs (edge_at rate k) (edge_at rate (k + 1)) (omega (arith, edge_rises rate k small (omega arith))) (fronts k (omega arith)) (each k (omega arith)))
 
 -- the words of the contract
 pub peaks_are : (gain : ℤ) (h : ℕ) (lines out : List ℕ) → h ≡ steps_of gain → PeaksSoFar h lines 22 out → (rate : SampleRate) (spec : List ℤ) →
-    AreLinePeaks (edges_at (hertz_index_of rate)) spec lines → ArePeaks (edges_at (hertz_index_of rate)) gain spec out
+    AreLinePeaks (band_edges rate) spec lines → ArePeaks (band_edges rate) gain spec out
 unfolding edge_at
 peaks_are gain h lines out steps peaks rate spec are = λ b lt.
     let part = slice_range spec (edge_at (hertz_index_of rate) b) (edge_at (hertz_index_of rate) (b + 1)) in
@@ -176,7 +154,7 @@ peaks_are gain h lines out steps peaks rate spec are = λ b lt.
     subst P steps (subst Q (sym (peaks.value b lt)) (quantised_peak h part (get_or lines b 0) (are.peaks_are b lt)))
 
 pub peaks_codable : (gain : ℤ) (h : ℕ) (lines out : List ℕ) → h ≡ steps_of gain → PeaksSoFar h lines 22 out → (rate : SampleRate) (spec : List ℤ) →
-    AreLinePeaks (edges_at (hertz_index_of rate)) spec lines → IsCodable gain spec
+    AreLinePeaks (band_edges rate) spec lines → IsCodable gain spec
 unfolding edge_at
 peaks_codable gain h lines out steps peaks rate spec are =
     let each = peaks_are gain h lines out steps peaks rate spec are in
@@ -184,7 +162,7 @@ peaks_codable gain h lines out steps peaks rate spec are =
     (codable_is_tested gain spec).0 (bands_cover (λ x. leb (magnitude gain x) 8191) (hertz_index_of rate) spec (index_small rate) are.long (λ b lt. each b lt 8191 ∙ below b lt))
 
 pub peak_above : (gain : ℤ) (h band : ℕ) (lines : List ℕ) → h ≡ steps_of gain → band < 22 → 8191 < magnitude_at (get_or lines band 0) h → (rate : SampleRate) (spec : List ℤ) →
-    AreLinePeaks (edges_at (hertz_index_of rate)) spec lines → Any (λ x. 8191 < magnitude gain x) spec
+    AreLinePeaks (band_edges rate) spec lines → Any (λ x. 8191 < magnitude gain x) spec
 unfolding edge_at
 peak_above gain h band lines steps lt above rate spec are =
     let index = hertz_index_of rate in

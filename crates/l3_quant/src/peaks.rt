@@ -2,9 +2,8 @@ ghost use Rattle.std.specs.Prelude.{ℕ, ℤ, List, ◌≡◌, ◌<◌, ◌≤�
 ghost use Rattle.std.specs.Bool.{OnTrue, OnFalse};
 ghost use Rattle.std.specs.List.{list_all};
 ghost use Rattle.l3_base.specs.declared.rate.SampleRate.{SampleRate};
-ghost use Rattle.l3_base.specs.Rates.{hertz_index_of};
 ghost use Rattle.l3_base.specs.Spectrum.{IsLine};
-ghost use Rattle.l3_tables.specs.Bands.{edge_at, edges_at};
+ghost use Rattle.l3_tables.specs.Bands.{edge_at, band_edges};
 ghost use Rattle.l3_quant.specs.Quantiser.{magnitude, IsCodable};
 ghost use Rattle.l3_quant.specs.Magnitudes.{AreLinePeaks, ArePeaks};
 
@@ -50,7 +49,7 @@ fn no_peaks() -> [u32; 22]
 
 /// The greatest absolute value of the lines of each band, below 2^29. It serves all gains.
 pub fn line_peaks(spec: &Spectrum, rate: SampleRate) -> [u32; 22]
-    ensures { AreLinePeaks (edges_at (hertz_index_of rate)) spec.now result }
+    ensures { AreLinePeaks (band_edges rate) spec.now result }
 {
     let lines = spec.lines();
     let frequency = rate.index();
@@ -68,10 +67,10 @@ pub fn band_peaks(lines: &[u32; 22], gain: i16, out: &mut [u16; 22]) -> bool
     requires small { All (λ p. p < 2 ^ 29) lines.now }
     requires low { negsuc 63 ≤ℤ gain }
     requires high { gain ≤ℤ pos 255 }
-    ensures codable { OnTrue result ((rate : SampleRate) (spec : List ℤ) → AreLinePeaks (edges_at (hertz_index_of rate)) spec lines.now → IsCodable gain spec) }
-    ensures values { OnTrue result ((rate : SampleRate) (spec : List ℤ) → AreLinePeaks (edges_at (hertz_index_of rate)) spec lines.now → ArePeaks (edges_at (hertz_index_of rate)) gain spec out.new) }
+    ensures codable { OnTrue result ((rate : SampleRate) (spec : List ℤ) → AreLinePeaks (band_edges rate) spec lines.now → IsCodable gain spec) }
+    ensures values { OnTrue result ((rate : SampleRate) (spec : List ℤ) → AreLinePeaks (band_edges rate) spec lines.now → ArePeaks (band_edges rate) gain spec out.new) }
     ensures bound { OnTrue result (All (λ n. n ≤ 8191) out.new) }
-    ensures above { OnFalse result ((rate : SampleRate) (spec : List ℤ) → AreLinePeaks (edges_at (hertz_index_of rate)) spec lines.now → Any (λ x. 8191 < magnitude gain x) spec) }
+    ensures above { OnFalse result ((rate : SampleRate) (spec : List ℤ) → AreLinePeaks (band_edges rate) spec lines.now → Any (λ x. 8191 < magnitude gain x) spec) }
 {
     let h = steps(gain);
     for band in 0..22 {

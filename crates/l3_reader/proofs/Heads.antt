@@ -41,13 +41,13 @@ none_of : {X : Type 0} (o : Option X) → ((x : X) → o ≡ Some x → ⊥) →
 none_of None never = refl
 none_of (Some x) never = absurd (never x refl)
 
-first_padding : (st : Settings) → header_at st 0 ≡ header_bits st false false
+first_padding : (st : Settings) → header_at st 0 ≡ header_bits st false false false
 unfolding header_at
 first_padding st = refl
 
 unpadded : (bits : List Bool) (st : Settings) → settings_at bits ≡ Some st → header_from bits ≡ Some (st, false)
 unpadded bits st e =
-    let is : bits ≡ header_bits st false false = (headers_are_there bits).of_first st e ∙ first_padding st in
+    let is : bits ≡ header_bits st false false false = (headers_are_there bits).of_first st e ∙ first_padding st in
     ap header_from is ∙ (headers_are_found st).of_any false
 
 pub first_none : (bits : List Bool) → header_from bits ≡ None → settings_at bits ≡ None
@@ -64,5 +64,5 @@ first_padded bits st padded is e = none_of (settings_at bits) (λ other h. flags
 
 pub first_found : (bits : List Bool) (st : Settings) (padded : Bool) → padded ≡ false → header_from bits ≡ Some (st, padded) → settings_at bits ≡ Some st
 first_found bits st padded is e =
-    let text : bits ≡ header_at st 0 = (headers_are_there bits).of_any st padded e ∙ (ap (λ b. header_bits st b false) is ∙ sym (first_padding st)) in
+    let text : bits ≡ header_at st 0 = (headers_are_there bits).of_any st padded e ∙ (ap (λ b. header_bits st b false false) is ∙ sym (first_padding st)) in
     ap settings_at text ∙ (headers_are_found st).of_first

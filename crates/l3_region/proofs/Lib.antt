@@ -1,8 +1,6 @@
 pub mod Tables
 pub mod Cells
-pub mod Firsts
 pub mod LaneLemmas
-pub mod Edges
 pub mod AllPass
 pub mod Slices
 pub mod Pairs

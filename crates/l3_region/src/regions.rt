@@ -1,6 +1,5 @@
 ghost use Rattle.std.specs.Prelude.{◌≡◌, ℤ, List, ◌≤◌, ◌<◌, ◌+◌, ◌*◌, ℕ, All, length, replicate, slice_index, unsigned_abs};
-ghost use Rattle.l3_base.specs.Rates.{hertz_index_of};
-ghost use Rattle.l3_tables.specs.Bands.{edges_at};
+ghost use Rattle.l3_tables.specs.Bands.{band_edges};
 ghost use Rattle.l3_region.specs.Split.{split_of};
 ghost use Rattle.l3_region.specs.Cut.{AreCutOf, as_lines};
 ghost use Rattle.l3_region.specs.Regions.{regions_of};
@@ -47,15 +46,15 @@ fn no_classes() -> [u8; 22]
 
 // The regions and tables of cut values that are split so.
 fn regions_of_cut(cut: &[u8; 576], peaks: &[u16; 22], split: Split, rate: SampleRate) -> Regions
-    requires known { (q : List ℤ) × AreCutOf (edges_at (hertz_index_of rate)) q cut.now peaks.now }
+    requires known { (q : List ℤ) × AreCutOf (band_edges rate) q cut.now peaks.now }
     requires split { split ≡ split_of (as_lines cut.now) }
-    ensures value { (q : List ℤ) → AreCutOf (edges_at (hertz_index_of rate)) q cut.now peaks.now → result ≡ regions_of (edges_at (hertz_index_of rate)) q }
+    ensures value { (q : List ℤ) → AreCutOf (band_edges rate) q cut.now peaks.now → result ≡ regions_of (band_edges rate) q }
     ensures limit { result.bits ≤ 9216 }
     ensures first { result.region0 ≤ 15 }
     ensures second { result.region1 ≤ 7 }
     ensures within { result.region0 + result.region1 + 2 ≤ 22 }
     ensures three { length result.tables ≡ 3 }
-    ensures held { (q : List ℤ) → AreCutOf (edges_at (hertz_index_of rate)) q cut.now peaks.now → (r : ℕ) → r < 3 → HoldsAll (slice_index result.tables r) (region (edges_at (hertz_index_of rate)) q result.region0 result.region1 r) }
+    ensures held { (q : List ℤ) → AreCutOf (band_edges rate) q cut.now peaks.now → (r : ℕ) → r < 3 → HoldsAll (slice_index result.tables r) (region (band_edges rate) q result.region0 result.region1 r) }
 {
     let end = 2 * usize::from(split.big);
     let mut rows = no_sums();
@@ -85,15 +84,15 @@ fn regions_of_cut(cut: &[u8; 576], peaks: &[u16; 22], split: Split, rate: Sample
 ///
 /// It is what `split_of` and `best` give for the values themselves. Errors: none.
 pub fn best_of_cut(cut: &[u8; 576], peaks: &[u16; 22], rate: SampleRate) -> (Split, Regions)
-    requires { (q : List ℤ) × AreCutOf (edges_at (hertz_index_of rate)) q cut.now peaks.now }
-    ensures value { (q : List ℤ) → AreCutOf (edges_at (hertz_index_of rate)) q cut.now peaks.now → (result.0 ≡ split_of q) × (result.1 ≡ regions_of (edges_at (hertz_index_of rate)) q) }
+    requires { (q : List ℤ) × AreCutOf (band_edges rate) q cut.now peaks.now }
+    ensures value { (q : List ℤ) → AreCutOf (band_edges rate) q cut.now peaks.now → (result.0 ≡ split_of q) × (result.1 ≡ regions_of (band_edges rate) q) }
     ensures places { 2 * result.0.big + 4 * result.0.quads ≤ 576 }
     ensures limit { result.1.bits ≤ 9216 }
     ensures first { result.1.region0 ≤ 15 }
     ensures second { result.1.region1 ≤ 7 }
     ensures within { result.1.region0 + result.1.region1 + 2 ≤ 22 }
     ensures three { length result.1.tables ≡ 3 }
-    ensures held { (q : List ℤ) → AreCutOf (edges_at (hertz_index_of rate)) q cut.now peaks.now → (r : ℕ) → r < 3 → HoldsAll (slice_index result.1.tables r) (region (edges_at (hertz_index_of rate)) q result.1.region0 result.1.region1 r) }
+    ensures held { (q : List ℤ) → AreCutOf (band_edges rate) q cut.now peaks.now → (r : ℕ) → r < 3 → HoldsAll (slice_index result.1.tables r) (region (band_edges rate) q result.1.region0 result.1.region1 r) }
 {
     let split = split_of_cut(cut);
     let regions = regions_of_cut(cut, peaks, split, rate);
@@ -107,13 +106,13 @@ pub fn best_of_cut(cut: &[u8; 576], peaks: &[u16; 22], rate: SampleRate) -> (Spl
 pub fn best(q: &[i16; 576], split: Split, rate: SampleRate) -> Regions
     requires small { All (λ x. unsigned_abs x ≤ 8191) q.now }
     requires split { split ≡ split_of q.now }
-    ensures value { result ≡ regions_of (edges_at (hertz_index_of rate)) q.now }
+    ensures value { result ≡ regions_of (band_edges rate) q.now }
     ensures limit { result.bits ≤ 9216 }
     ensures first { result.region0 ≤ 15 }
     ensures second { result.region1 ≤ 7 }
     ensures within { result.region0 + result.region1 + 2 ≤ 22 }
     ensures three { length result.tables ≡ 3 }
-    ensures held { (r : ℕ) → r < 3 → HoldsAll (slice_index result.tables r) (region (edges_at (hertz_index_of rate)) q.now result.region0 result.region1 r) }
+    ensures held { (r : ℕ) → r < 3 → HoldsAll (slice_index result.tables r) (region (band_edges rate) q.now result.region0 result.region1 r) }
 {
     regions_of_cut(&cut_of(q), &peaks_of(q, rate.index()), split, rate)
 }

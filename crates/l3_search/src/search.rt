@@ -1,9 +1,8 @@
 ghost use Rattle.std.specs.Prelude.{◌≡◌, ◌≤◌, ◌+◌, All, Some};
-ghost use Rattle.l3_base.specs.Rates.{hertz_index_of};
 ghost use Rattle.l3_base.specs.Spectrum.{IsLine};
 ghost use Rattle.l3_quant.specs.Gains.{first_gain_of};
 ghost use Rattle.l3_quant.specs.Magnitudes.{AreLinePeaks};
-ghost use Rattle.l3_count.specs.Bands.{edges_at};
+ghost use Rattle.l3_count.specs.Bands.{band_edges};
 ghost use Rattle.l3_count.specs.Count.{count_of};
 ghost use Rattle.l3_count.specs.Memo.{IsMemoOf};
 ghost use Rattle.l3_search.specs.Gain.{HasCountsTo, IsLeastWithin, lacking, picked, picked_gain, tried_of};
@@ -41,13 +40,13 @@ fn make<L: Ledger + Send>(
     memo: &mut Memo,
     steps: &mut Steps<L>,
 ) -> Count
-    requires peaks { AreLinePeaks (edges_at (hertz_index_of rate)) spec.now peaks.now }
+    requires peaks { AreLinePeaks (band_edges rate) spec.now peaks.now }
     requires first { first_gain_of spec.now ≤ gain }
-    requires memo { IsMemoOf (edges_at (hertz_index_of rate)) spec.now memo.old }
-    ensures count { count_of (edges_at (hertz_index_of rate)) spec.now gain ≡ Some result }
+    requires memo { IsMemoOf (band_edges rate) spec.now memo.old }
+    ensures count { count_of (band_edges rate) spec.now gain ≡ Some result }
     ensures ticks { steps.new ≡ steps.old + 1 }
-    ensures memo { HasCountsTo (edges_at (hertz_index_of rate)) spec.now gain gain memo.old memo.new }
-    ensures kept { IsMemoOf (edges_at (hertz_index_of rate)) spec.now memo.new }
+    ensures memo { HasCountsTo (band_edges rate) spec.now gain gain memo.old memo.new }
+    ensures kept { IsMemoOf (band_edges rate) spec.now memo.new }
 {
     match count_with(spec, peaks, rate, gain, steps) {
         None => unreachable!(),
@@ -67,15 +66,15 @@ fn look_up<L: Ledger + Send>(
     memo: &mut Memo,
     steps: &mut Steps<L>,
 ) -> Picked
-    requires peaks { AreLinePeaks (edges_at (hertz_index_of rate)) spec.now peaks.now }
+    requires peaks { AreLinePeaks (band_edges rate) spec.now peaks.now }
     requires first { first_gain_of spec.now ≤ gain }
-    requires memo { IsMemoOf (edges_at (hertz_index_of rate)) spec.now memo.old }
-    ensures count { count_of (edges_at (hertz_index_of rate)) spec.now gain ≡ Some result.count }
+    requires memo { IsMemoOf (band_edges rate) spec.now memo.old }
+    ensures count { count_of (band_edges rate) spec.now gain ≡ Some result.count }
     ensures made { result.made ≡ lacking memo.old gain gain }
     ensures one { result.made ≤ 1 }
     ensures ticks { steps.new ≡ steps.old + result.made }
-    ensures memo { HasCountsTo (edges_at (hertz_index_of rate)) spec.now gain gain memo.old memo.new }
-    ensures kept { IsMemoOf (edges_at (hertz_index_of rate)) spec.now memo.new }
+    ensures memo { HasCountsTo (band_edges rate) spec.now gain gain memo.old memo.new }
+    ensures kept { IsMemoOf (band_edges rate) spec.now memo.new }
 {
     match memo.get(gain) {
         Some(count) => Picked { count, made: 0 },
@@ -97,17 +96,17 @@ pub fn pick<L: Ledger + Send>(
     memo: &mut Memo,
     steps: &mut Steps<L>,
 ) -> Picked
-    requires memo { IsMemoOf (edges_at (hertz_index_of rate)) spec.now memo.old }
-    ensures count { picked (edges_at (hertz_index_of rate)) spec.now budget ≡ Some result.count }
-    ensures gain { result.count.gain ≡ picked_gain (edges_at (hertz_index_of rate)) spec.now budget }
-    ensures least { IsLeastWithin (edges_at (hertz_index_of rate)) spec.now budget result.count }
+    requires memo { IsMemoOf (band_edges rate) spec.now memo.old }
+    ensures count { picked (band_edges rate) spec.now budget ≡ Some result.count }
+    ensures gain { result.count.gain ≡ picked_gain (band_edges rate) spec.now budget }
+    ensures least { IsLeastWithin (band_edges rate) spec.now budget result.count }
     ensures within { result.count.bits ≤ budget }
-    ensures made { result.made ≡ lacking memo.old (first_gain_of spec.now) (picked_gain (edges_at (hertz_index_of rate)) spec.now budget) }
-    ensures tried { result.made ≤ tried_of (edges_at (hertz_index_of rate)) spec.now budget }
+    ensures made { result.made ≡ lacking memo.old (first_gain_of spec.now) (picked_gain (band_edges rate) spec.now budget) }
+    ensures tried { result.made ≤ tried_of (band_edges rate) spec.now budget }
     ensures limit { result.made ≤ 256 }
     ensures ticks { steps.new ≡ steps.old + result.made }
-    ensures memo { HasCountsTo (edges_at (hertz_index_of rate)) spec.now (first_gain_of spec.now) (picked_gain (edges_at (hertz_index_of rate)) spec.now budget) memo.old memo.new }
-    ensures kept { IsMemoOf (edges_at (hertz_index_of rate)) spec.now memo.new }
+    ensures memo { HasCountsTo (band_edges rate) spec.now (first_gain_of spec.now) (picked_gain (band_edges rate) spec.now budget) memo.old memo.new }
+    ensures kept { IsMemoOf (band_edges rate) spec.now memo.new }
 {
     let peaks = line_peaks(spec, rate);
     let mut gain = start(spec);

@@ -83,7 +83,7 @@ header_of-fields st padded = omega arith
 -- its digits are those of the settings
 pub header_of-digits : (st : Settings) (padded : Bool) (rate frequency flag mode : ℕ) →
     rate ≡ index_of st.rate → frequency ≡ hertz_index_of st.sample_rate → flag ≡ padding padded → mode ≡ mode_of st.channels false →
-    digits 32 (((((1048496 + rate) * 4 + frequency) * 2 + flag) * 8 + mode) * 64) ≡ header_bits st padded false
+    digits 32 (((((1048496 + rate) * 4 + frequency) * 2 + flag) * 8 + mode) * 64) ≡ header_bits st padded false false
 unfolding header_of
 header_of-digits st padded rate frequency flag mode is_rate is_frequency is_flag is_mode =
     let same : header_of rate frequency flag mode ≡ number_in header_widths (header_values st padded) = rw (is_rate, is_frequency, is_flag, is_mode) (header_of-fields st padded) in
@@ -102,7 +102,7 @@ pub header_written : (new : List ℕ) (number : ℕ) (header : List Bool) → di
     bits_of new ≡ take 0 (bits_of (replicate 4 0)) ++ digits 32 number ++ drop 32 (bits_of (replicate 4 0)) → bits_of new ≡ header
 header_written new number header is written = written ∙ (append-nil (digits 32 number) ∙ is)
 
-pub header_frame : (st : Settings) (frame : ℕ) → header_bits st (is_padded st frame) false ≡ header_at st frame
+pub header_frame : (st : Settings) (frame : ℕ) → header_bits st (is_padded st frame) false false ≡ header_at st frame
 unfolding header_at
 header_frame st frame = refl
 
@@ -116,7 +116,7 @@ bytes_there bytes number other header four is same digits_are =
 
 -- the number of bytes that are a header
 pub number_there : (bytes : List ℕ) (number : ℕ) (st : Settings) (padded : Bool) → length bytes ≡ 4 → number ≡ number_of (take 32 (drop 0 (bits_of bytes))) →
-    bits_of bytes ≡ header_bits st padded false → number ≡ header_of (index_of st.rate) (hertz_index_of st.sample_rate) (padding padded) (mode_of st.channels false)
+    bits_of bytes ≡ header_bits st padded false false → number ≡ header_of (index_of st.rate) (hertz_index_of st.sample_rate) (padding padded) (mode_of st.channels false)
 number_there bytes number st padded four is header =
     is ∙ (number_of_four bytes four ∙ (ap number_of header ∙ (number_of-spelled header_widths (header_values st padded) (values_fit st padded) ∙ sym (header_of-fields st padded))))
 
@@ -191,13 +191,13 @@ one_settings number a b x y =
 
 -- a number that is not that of its own fields is no header's
 pub no_header : (bytes : List ℕ) (number other : ℕ) (own : Settings) → length bytes ≡ 4 → number ≡ number_of (take 32 (drop 0 (bits_of bytes))) →
-    HasHeaderFields own number → digits 32 other ≡ header_bits own (nat_eq (number / 512 % 2) 1) false → other < 2 ^ 32 → (other ≡ number → ⊥) →
-    (st : Settings) (padded : Bool) → bits_of bytes ≡ header_bits st padded false → ⊥
+    HasHeaderFields own number → digits 32 other ≡ header_bits own (nat_eq (number / 512 % 2) 1) false false → other < 2 ^ 32 → (other ≡ number → ⊥) →
+    (st : Settings) (padded : Bool) → bits_of bytes ≡ header_bits st padded false false → ⊥
 no_header bytes number other own four is fields spelled small differ st padded header =
     let value = number_there bytes number st padded four is header in
     let reads = fields_there number st padded value in
     let settings : own ≡ st = one_settings number own st fields reads.settings in
-    let text : digits 32 other ≡ bits_of bytes = spelled ∙ (ap (λ s. header_bits s (nat_eq (number / 512 % 2) 1) false) settings ∙ (ap (λ p. header_bits st p false) reads.flag ∙ sym header)) in
+    let text : digits 32 other ≡ bits_of bytes = spelled ∙ (ap (λ s. header_bits s (nat_eq (number / 512 % 2) 1) false false) settings ∙ (ap (λ p. header_bits st p false false) reads.flag ∙ sym header)) in
     let same : other ≡ number_of (bits_of bytes) = sym (number_of-digits 32 other small) ∙ ap number_of text in
     differ (same ∙ sym (is ∙ number_of_four bytes four))
 
@@ -207,8 +207,8 @@ none_of : {X : Type 0} (o : Option X) → ((x : X) → o ≡ Some x → ⊥) →
 none_of None never = refl
 none_of (Some x) never = absurd (never x refl)
 
-pub read_as : (bits : List Bool) (st : Settings) (padded : Bool) → bits ≡ header_bits st padded false → header_from bits ≡ Some (st, padded)
+pub read_as : (bits : List Bool) (st : Settings) (padded : Bool) → bits ≡ header_bits st padded false false → header_from bits ≡ Some (st, padded)
 read_as bits st padded is = ap header_from is ∙ (headers_are_found st).of_any padded
 
-pub read_as_none : (bits : List Bool) → ((st : Settings) (padded : Bool) → bits ≡ header_bits st padded false → ⊥) → header_from bits ≡ None
+pub read_as_none : (bits : List Bool) → ((st : Settings) (padded : Bool) → bits ≡ header_bits st padded false false → ⊥) → header_from bits ≡ None
 read_as_none bits never = none_of (header_from bits) (λ read e. never read.0 read.1 ((headers_are_there bits).of_any read.0 read.1 e))

@@ -33,8 +33,8 @@ pub fn write_header(settings: &Settings, frame: u64) -> [u8; 4]
 /// The padding bit may be either at any sampling frequency: a header alone does not tell the number of its frame.
 pub fn read_header(bytes: &[u8; 4]) -> Option<(Settings, bool)>
     ensures value { header_from (bits_of bytes.now) ≡ result }
-    ensures found { IfSome result (λ read. bits_of bytes.now ≡ header_bits read.0 read.1 false) }
-    ensures none { IfNone result ((st : Settings) (padded : Bool) → bits_of bytes.now ≡ header_bits st padded false → ⊥) }
+    ensures found { IfSome result (λ read. bits_of bytes.now ≡ header_bits read.0 read.1 false false) }
+    ensures none { IfNone result ((st : Settings) (padded : Bool) → bits_of bytes.now ≡ header_bits st padded false false → ⊥) }
 {
     let number = take_bits(bytes, 0, 32);
     let settings = settings_of(number)?;
@@ -50,7 +50,7 @@ pub fn read_header(bytes: &[u8; 4]) -> Option<(Settings, bool)>
 
 // The header of a frame as a number of 32 bits.
 fn header_number(settings: &Settings, padded: bool) -> u64
-    ensures digits { digits 32 result ≡ header_bits settings.now padded false }
+    ensures digits { digits 32 result ≡ header_bits settings.now padded false false }
     ensures small { result < 2 ^ 32 }
 {
     let padding = if padded { 1 } else { 0 };

@@ -80,7 +80,7 @@ channels_are Stereo = refl
 abbrev made_of : Rate → SampleRate → Channels → Settings
 made_of r h c = record { rate = r; sample_rate = h; channels = c }
 
-settings_of-header_bits : (st : Settings) (padded : Bool) → settings_of (header_bits st padded false) ≡ st
+settings_of-header_bits : (st : Settings) (padded : Bool) → settings_of (header_bits st padded false false) ≡ st
 unfolding settings_of
 settings_of-header_bits st padded =
     let rate : rate_from (number_of (digits 4 (index_of st.rate))) ≡ st.rate = ap rate_from (number_of-digits 4 (index_of st.rate) (is_rate st.rate).index) ∙ rate_is st.rate in
@@ -89,14 +89,14 @@ settings_of-header_bits st padded =
     ∙ (ap (λ h. made_of st.rate h (channels_from (number_of (digits 2 (mode_of st.channels false))))) hertz
     ∙ ap (λ c. made_of st.rate st.sample_rate c) (channels_are st.channels))
 
-header-first : (st : Settings) → header_at st 0 ≡ header_bits st false false
+header-first : (st : Settings) → header_at st 0 ≡ header_bits st false false false
 unfolding header_at
 header-first st = refl
 
 settings_of-header : (st : Settings) → settings_of (header_at st 0) ≡ st
 settings_of-header st = ap settings_of (header-first st) ∙ settings_of-header_bits st false
 
-padded_of-header : (st : Settings) (padded : Bool) → padded_of (header_bits st padded false) ≡ padded
+padded_of-header : (st : Settings) (padded : Bool) → padded_of (header_bits st padded false false) ≡ padded
 padded_of-header st false = refl
 padded_of-header st true = refl
 
@@ -110,14 +110,14 @@ pub settings_again : (st : Settings) → settings_at (header_at st 0) ≡ Some s
 unfolding settings_at
 settings_again st = rw (settings_of-header st, same_again (header_at st 0)) refl
 
-header_take : (bits : List Bool) (st : Settings) (padded : Bool) → header_from bits ≡ Some (st, padded) → bits ≡ header_bits st padded false
+header_take : (bits : List Bool) (st : Settings) (padded : Bool) → header_from bits ≡ Some (st, padded) → bits ≡ header_bits st padded false false
 unfolding header_from
 header_take bits st padded e =
-    let p = cond_some (same bits (header_bits (settings_of bits) (padded_of bits) false)) (settings_of bits, padded_of bits) (st, padded) e in
+    let p = cond_some (same bits (header_bits (settings_of bits) (padded_of bits) false false)) (settings_of bits, padded_of bits) (st, padded) e in
     let read : Settings × Bool = (st, padded) in
-    same_is _ _ p.0 ∙ ap (λ (x : Settings × Bool). header_bits x.0 x.1 false) p.1
+    same_is _ _ p.0 ∙ ap (λ (x : Settings × Bool). header_bits x.0 x.1 false false) p.1
 
-header_again : (bits : List Bool) (st : Settings) (padded : Bool) → bits ≡ header_bits st padded false → header_from bits ≡ Some (st, padded)
+header_again : (bits : List Bool) (st : Settings) (padded : Bool) → bits ≡ header_bits st padded false false → header_from bits ≡ Some (st, padded)
 unfolding header_from
 header_again bits st padded e =
     let settings : settings_of bits ≡ st = ap settings_of e ∙ settings_of-header_bits st padded in
@@ -128,7 +128,7 @@ pub headers_are_there : (bits : List Bool) → HeadersAreThere bits
 headers_are_there bits = record { of_any = header_take bits; of_first = settings_take bits }
 
 pub headers_are_found : (st : Settings) → HeadersAreFound st
-headers_are_found st = record { of_any = λ padded. header_again (header_bits st padded false) st padded refl; of_first = settings_again st }
+headers_are_found st = record { of_any = λ padded. header_again (header_bits st padded false false) st padded refl; of_first = settings_again st }
 
 -- ---- lengths
 

@@ -14,7 +14,7 @@ use Rattle.l3_stream.specs.Fields.{same}
 
 -- the header of frame n: the padding bit by the remainder rule
 unfoldable pub header_at : Settings → ℕ → List Bool
-header_at st n = header_bits st (is_padded st n) false
+header_at st n = header_bits st (is_padded st n) false false
 
 -- ---- the settings of a header, whose bits are decoded, and then compared
 
@@ -44,7 +44,7 @@ padded_of bits = get_or bits 22 false
 
 -- settings and padding bit of a header of the profile, if these 32 bits are one
 unfoldable pub header_from : List Bool → Option (Settings × Bool)
-header_from bits = if same bits (header_bits (settings_of bits) (padded_of bits) false) then Some (settings_of bits, padded_of bits) else None
+header_from bits = if same bits (header_bits (settings_of bits) (padded_of bits) false false) then Some (settings_of bits, padded_of bits) else None
 
 -- the settings under which these 32 bits are the header of frame 0, if there are some
 unfoldable pub settings_at : List Bool → Option Settings

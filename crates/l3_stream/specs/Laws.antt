@@ -35,7 +35,7 @@ CodesHaveLengths = (st : Settings) (f : ChosenFrame) → IsCoded st f → length
 
 -- bits that are read as a header are that header; so bits that are none are read as none
 pub record HeadersAreThere (bits : List Bool) : Type 0 where
-  pub of_any : (st : Settings) (padded : Bool) → header_from bits ≡ Some (st, padded) → bits ≡ header_bits st padded false
+  pub of_any : (st : Settings) (padded : Bool) → header_from bits ≡ Some (st, padded) → bits ≡ header_bits st padded false false
   pub of_first : (st : Settings) → settings_at bits ≡ Some st → bits ≡ header_at st 0
 
 abbrev pub HeaderIsThere : Type 0
@@ -43,7 +43,7 @@ HeaderIsThere = (bits : List Bool) → HeadersAreThere bits
 
 -- a header is read as that of its settings; so bits that are read as none are no header
 pub record HeadersAreFound (st : Settings) : Type 0 where
-  pub of_any : (padded : Bool) → header_from (header_bits st padded false) ≡ Some (st, padded)
+  pub of_any : (padded : Bool) → header_from (header_bits st padded false false) ≡ Some (st, padded)
   pub of_first : settings_at (header_at st 0) ≡ Some st
 
 abbrev pub HeaderIsFound : Type 0

@@ -4,3 +4,4 @@ pub mod SumLemmas
 pub mod Circles
 pub mod Slots
 pub mod FloorLemmas
+pub mod Edges

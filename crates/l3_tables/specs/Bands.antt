@@ -1,10 +1,16 @@
 -- Scale factor bands of long blocks (ISO/IEC 11172-3, Annex B).
 use Rattle.std.specs.Prelude.{◌≡◌, ℕ, ◌+◌, ◌-◌, ◌<◌, ◌≤◌, List, [], ℤ, pos, length, slice_index, slice_index_or}
+use Rattle.l3_base.specs.declared.rate.SampleRate.{SampleRate}
+use Rattle.l3_base.specs.Rates.{hertz_index_of}
 use Rattle.l3_tables.specs.declared.bands.TheConstants.{EDGES, SLEN}
 
 -- the 23 edges at a sampling frequency: 44100, 48000, 32000 Hz
 unfoldable pub edges_at : ℕ → List ℕ
 edges_at rate = slice_index_or EDGES rate []
+
+-- the edges of the bands of a sampling frequency
+abbrev pub band_edges : SampleRate → List ℕ
+band_edges rate = edges_at (hertz_index_of rate)
 
 -- the first line of a band
 unfoldable pub edge_at : ℕ → ℕ → ℕ

@@ -5,3 +5,4 @@ pub mod Cosines
 pub mod Steps
 pub mod Bands
 pub mod Filterbank
+pub mod Rates

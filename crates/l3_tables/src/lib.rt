@@ -1,7 +1,8 @@
 //! Constants of the transforms, of the gains and of the bands, and the definition of the filterbank's slots.
 //!
 //! Nothing -> numbers. Before: the fixed tables of Layer III and of this project; after: each stage of the encoder.
-//! Beside each table stands what its entries add up to, taken from a count made apart from this text, so that a mistyped or moved entry is refused.
+//! Beside each table stands what its entries add up to, taken from a count made apart from this text,
+//! so that a mistyped or moved entry is refused.
 #![tactic(auto)]
 
 mod bands;
@@ -12,7 +13,6 @@ mod gains;
 mod products;
 mod rates;
 mod sums;
-mod whole;
 mod window;
 
 pub use bands::{EDGES, SLEN, band_laws, band_sums, edge};

@@ -1,6 +1,7 @@
 ghost use Rattle.std.specs.Prelude.{pos};
 ghost use Rattle.l3_tables.specs.Sums.{AddsUpTo};
 ghost use Rattle.l3_tables.specs.Bands.{numbers};
+ghost use Rattle.l3_tables.specs.Rates.{RatesAreThose};
 
 /// The rates in kbit/s of `bitrate_index` 1 to 14 (ISO/IEC 11172-3, Annex B; index 1 stands first).
 #[rattlefmt::skip]
@@ -8,7 +9,8 @@ pub static RATES: [u32; 14] = [
     32, 40, 48, 56, 64, 80, 96, 112, 128, 160, 192, 224, 256, 320,
 ];
 
-/// What the rates add up to.
+/// What the rates add up to, and that they are those of [`l3_base::Rate`], in its order.
 pub fn rate_sums()
-    ensures { AddsUpTo 14 (numbers RATES) (pos 1808) 1808 (pos 18208) }
+    ensures sums { AddsUpTo 14 (numbers RATES) (pos 1808) 1808 (pos 18208) }
+    ensures same { RatesAreThose }
 {}

@@ -1,5 +1,5 @@
 use Rattle.std.proofs.Common.{arith}
-use Rattle.l3_energy.proofs.Edges.{edge_rises}
+use Rattle.l3_tables.proofs.Edges.{edge_rises}
 use Rattle.l3_energy.proofs.band.band_lines.Goals as goal
 
 pub slice_bounds-result-count : goal.slice_bounds-result-count

@@ -4,7 +4,7 @@ use Rattle.l3_base.specs.Rates.{hertz_index_of}
 use Rattle.l3_tables.specs.Bands.{edge_at}
 use Rattle.l3_tables.specs.Lists.{tabulate}
 use Rattle.l3_energy.specs.Demand.{eighths_of, demand_of}
-use Rattle.l3_energy.proofs.Edges.{edge_rises, edge_last, edge_within, index_small}
+use Rattle.l3_tables.proofs.Edges.{edge_rises, edge_last, edge_within, index_small}
 use Rattle.l3_energy.proofs.Sums.{sum_tabulate-none, sum_tabulate-more}
 use Rattle.l3_energy.proofs.energy.demand.Goals as goal
 

@@ -1,7 +1,6 @@
 use Rattle.std.proofs.Common.{◌≡◌, ℕ, List, ◌≤◌, ◌+◌, ◌*◌, ◌/◌, ◌%◌, ◌∙◌, arith, ap, sym, refl, subst}
 use Rattle.std.specs.Prelude.{ℤ, All, slice_range, unsigned_abs}
-use Rattle.l3_base.specs.Rates.{hertz_index_of}
-use Rattle.l3_tables.specs.Bands.{edges_at}
+use Rattle.l3_tables.specs.Bands.{edges_at, band_edges}
 use Rattle.l3_region.specs.Cut.{AreCutOf, as_lines}
 use Rattle.l3_region.specs.declared.split.Split.{Split}
 use Rattle.l3_region.specs.Lanes.{IsBestPair}
@@ -71,7 +70,7 @@ returns c =
     let lines = as_lines cut in
     let known = c.requires.known in
     let p = places lines c.args.split c.from-end.result c.from-2.result c.requires.split c.from-end.ensures c.from-2.ensures in
-    let edges = edges_at (hertz_index_of c.args.rate) in
+    let edges = band_edges c.args.rate in
     let rate = c.index.result in
     let end = 2 * c.from-end.result in
     let rows = c.sum_bands.new.rows in

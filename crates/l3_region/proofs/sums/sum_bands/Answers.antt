@@ -8,7 +8,7 @@ use Rattle.l3_region.specs.Cut.{as_lines}
 use Rattle.l3_region.specs.Split.{end_of_pairs}
 use Rattle.l3_region.specs.Lanes.{IsBandClass, lane_sum}
 use Rattle.l3_region.proofs.CutLines.{cut_small, sums_same}
-use Rattle.l3_region.proofs.Edges.{edge_first, edge_order}
+use Rattle.l3_tables.proofs.Edges.{edge_first, edge_order}
 use Rattle.l3_region.proofs.LaneLemmas.{lane_sum-none}
 use Rattle.l3_region.proofs.Ranges.{are_sums}
 use Rattle.l3_region.proofs.Composed.{costs_grow}

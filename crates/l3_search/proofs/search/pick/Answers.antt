@@ -1,7 +1,6 @@
 use Rattle.std.proofs.Common.{◌≡◌, ℕ, ◌+◌, ◌<◌, refl, sym, ap, ◌∙◌, arith}
-use Rattle.l3_base.specs.Rates.{hertz_index_of}
 use Rattle.l3_quant.specs.Gains.{first_gain_of}
-use Rattle.l3_count.specs.Bands.{edges_at}
+use Rattle.l3_count.specs.Bands.{band_edges}
 use Rattle.l3_count.specs.Count.{count_of}
 use Rattle.l3_search.specs.Gain.{lacking, picked_gain}
 use Rattle.l3_search.proofs.Fits.{below_top, counted_at, least_within, none_before, none_before-more, picked_gain-is}
@@ -11,7 +10,7 @@ use Rattle.l3_search.proofs.search.pick.Goals as goal
 
 pub loop-found-init : goal.loop-found-init
 loop-found-init g c =
-    let edges = edges_at (hertz_index_of c.args.rate) in
+    let edges = band_edges c.args.rate in
     let lines = c.args.spec.now in
     let gain = c.start-gain.result in
     let is : gain ≡ first_gain_of lines = c.start-gain.ensures.value in
@@ -29,7 +28,7 @@ loop-found-init g c =
 pub overflow_add-gain : goal.overflow_add-gain
 overflow_add-gain g c =
     let inv = c.loop-found.invariant in
-    let room = below_top (edges_at (hertz_index_of c.args.rate)) c.args.spec.now c.args.budget c.loop-found.gain c.loop-found.found.count c.start-gain.ensures.small inv.most inv.count (omega arith) in
+    let room = below_top (band_edges c.args.rate) c.args.spec.now c.args.budget c.loop-found.gain c.loop-found.found.count c.start-gain.ensures.small inv.most inv.count (omega arith) in
     omega arith
 
 pub overflow_add-made : goal.overflow_add-made
@@ -41,12 +40,12 @@ overflow_add-made g c =
 pub loop-found-smaller : goal.loop-found-smaller
 loop-found-smaller g c =
     let inv = c.loop-found.invariant in
-    let room = below_top (edges_at (hertz_index_of c.args.rate)) c.args.spec.now c.args.budget c.loop-found.gain c.loop-found.found.count c.start-gain.ensures.small inv.most inv.count (omega arith) in
+    let room = below_top (band_edges c.args.rate) c.args.spec.now c.args.budget c.loop-found.gain c.loop-found.found.count c.start-gain.ensures.small inv.most inv.count (omega arith) in
     omega arith
 
 pub loop-found-preserved : goal.loop-found-preserved
 loop-found-preserved g c =
-    let edges = edges_at (hertz_index_of c.args.rate) in
+    let edges = band_edges c.args.rate in
     let lines = c.args.spec.now in
     let first = first_gain_of lines in
     let gain = c.loop-found.gain in
@@ -68,14 +67,14 @@ loop-found-preserved g c =
 
 pub returns-clause-count : goal.returns-clause-count
 returns-clause-count g c =
-    let edges = edges_at (hertz_index_of c.args.rate) in
+    let edges = band_edges c.args.rate in
     let inv = c.loop-found.invariant in
     let e = picked_gain-is edges c.args.spec.now c.args.budget c.loop-found.gain c.loop-found.found.count inv.most inv.count (omega arith) inv.none_before in
     ap (count_of edges c.args.spec.now) e ∙ inv.count
 
 pub returns-clause-gain : goal.returns-clause-gain
 returns-clause-gain g c =
-    let edges = edges_at (hertz_index_of c.args.rate) in
+    let edges = band_edges c.args.rate in
     let inv = c.loop-found.invariant in
     let e = picked_gain-is edges c.args.spec.now c.args.budget c.loop-found.gain c.loop-found.found.count inv.most inv.count (omega arith) inv.none_before in
     counted_at edges c.args.spec.now c.loop-found.gain c.loop-found.found.count inv.count ∙ sym e
@@ -83,18 +82,18 @@ returns-clause-gain g c =
 pub returns-clause-least : goal.returns-clause-least
 returns-clause-least g c =
     let inv = c.loop-found.invariant in
-    least_within (edges_at (hertz_index_of c.args.rate)) c.args.spec.now c.args.budget c.loop-found.gain c.loop-found.found.count inv.count (omega arith) inv.none_before
+    least_within (band_edges c.args.rate) c.args.spec.now c.args.budget c.loop-found.gain c.loop-found.found.count inv.count (omega arith) inv.none_before
 
 pub returns-clause-made : goal.returns-clause-made
 returns-clause-made g c =
     let inv = c.loop-found.invariant in
-    let e = picked_gain-is (edges_at (hertz_index_of c.args.rate)) c.args.spec.now c.args.budget c.loop-found.gain c.loop-found.found.count inv.most inv.count (omega arith) inv.none_before in
+    let e = picked_gain-is (band_edges c.args.rate) c.args.spec.now c.args.budget c.loop-found.gain c.loop-found.found.count inv.most inv.count (omega arith) inv.none_before in
     inv.made ∙ ap (λ (k : ℕ). lacking c.args.memo.now (first_gain_of c.args.spec.now) k) (sym e)
 
 pub returns-clause-tried : goal.returns-clause-tried
 returns-clause-tried g c =
     let inv = c.loop-found.invariant in
-    let e = picked_gain-is (edges_at (hertz_index_of c.args.rate)) c.args.spec.now c.args.budget c.loop-found.gain c.loop-found.found.count inv.most inv.count (omega arith) inv.none_before in
+    let e = picked_gain-is (band_edges c.args.rate) c.args.spec.now c.args.budget c.loop-found.gain c.loop-found.found.count inv.most inv.count (omega arith) inv.none_before in
     let all = lacking-le c.args.memo.now (first_gain_of c.args.spec.now) c.loop-found.gain in
     omega arith
 
@@ -106,7 +105,7 @@ returns-clause-limit g c =
 
 pub returns-clause-memo : goal.returns-clause-memo
 returns-clause-memo g c =
-    let edges = edges_at (hertz_index_of c.args.rate) in
+    let edges = band_edges c.args.rate in
     let first = first_gain_of c.args.spec.now in
     let gain = c.loop-found.gain in
     let inv = c.loop-found.invariant in

@@ -12,7 +12,7 @@ returns-then-header_number-number-clause-found c =
     let four : length c.args.bytes.now ≡ 4 = search rules in
     let same : c.header_number.result ≡ c.take_bits-number.result = search rules in
     bytes_there c.args.bytes.now c.take_bits-number.result c.header_number.result
-    (header_bits c.in_ok-settings.settings (nat_eq (c.take_bits-number.result / 512 % 2) 1) false) four c.take_bits-number.ensures.value same c.header_number.ensures.digits
+    (header_bits c.in_ok-settings.settings (nat_eq (c.take_bits-number.result / 512 % 2) 1) false false) four c.take_bits-number.ensures.value same c.header_number.ensures.digits
 
 pub returns-else-header_number-number-clause-none : goal.returns-else-header_number-number-clause-none
 returns-else-header_number-number-clause-none c =
@@ -28,7 +28,7 @@ pub returns-else-header_number-number-clause-value : goal.returns-else-header_nu
 returns-else-header_number-number-clause-value c = read_as_none (bits_of c.args.bytes.now) (returns-else-header_number-number-clause-none c)
 
 -- bytes of which the number has no settings are no header
-no_settings : (c : After-from_residual) (st : Settings) (padded : Bool) → bits_of c.args.bytes.now ≡ header_bits st padded false → ⊥
+no_settings : (c : After-from_residual) (st : Settings) (padded : Bool) → bits_of c.args.bytes.now ≡ header_bits st padded false false → ⊥
 no_settings c st padded header =
     let four : length c.args.bytes.now ≡ 4 = search rules in
     let value = number_there c.args.bytes.now c.take_bits-number.result st padded four c.take_bits-number.ensures.value header in

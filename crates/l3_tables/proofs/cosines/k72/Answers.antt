@@ -3,7 +3,7 @@ use Rattle.std.proofs.lemmas.Int.{to_z-of_z}
 use Rattle.std.specs.Prelude.{unsigned_abs}
 use Rattle.std.specs.Int.{int_rem_euclid}
 use Rattle.l3_tables.specs.Cosines.{cosine72}
-use Rattle.l3_tables.specs.declared.whole.TheConstants.{CIRCLE72}
+use Rattle.l3_tables.specs.declared.cosines.TheConstants.{CIRCLE72}
 use Rattle.l3_tables.proofs.Entries.{same_at, within_same}
 use Rattle.l3_tables.proofs.Circles.{cosine72-rem, cosine72_small}
 use Rattle.l3_tables.proofs.cosines.k72.Goals as goal

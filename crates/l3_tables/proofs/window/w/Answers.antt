@@ -1,6 +1,6 @@
 use Rattle.std.proofs.Common.{pos, get_or, refl, w32, to_z, of_z}
 use Rattle.l3_tables.specs.Window.{window_at}
-use Rattle.l3_tables.specs.declared.whole.TheConstants.{WHOLE_WINDOW}
+use Rattle.l3_tables.specs.declared.window.TheConstants.{WHOLE_WINDOW}
 use Rattle.l3_tables.proofs.Entries.{same_at, within_at}
 use Rattle.l3_tables.proofs.window.w.Goals as goal
 
