@@ -11,7 +11,8 @@ use Rattle.l3_stream.proofs.Tape.{slots-suc}
 use Rattle.l3_frames.specs.Writing.{Writing, first_of, open_from, owed, FitBehind}
 use Rattle.l3_frames.specs.Laying.{laid_over}
 use Rattle.l3_frames.specs.Pending.{given_bytes, reached_bits, IsSound, IsNoted}
-use Rattle.l3_frames.proofs.TapeLemmas.{start-is, tape-later, zeros_further, zeros_longer, take_zeros, laid_over-length, laid_over-drop, laid_over-take, bits_of-append, bits_of-zeros}
+use Rattle.l3_bits.proofs.Bytes.{bits_of-append}
+use Rattle.l3_frames.proofs.TapeLemmas.{start-is, tape-later, zeros_further, zeros_longer, take_zeros, laid_over-length, laid_over-drop, laid_over-take, bits_of-zeros}
 
 -- where a frame's codes are laid over the slots that are not given yet, and what stands there before
 pub record HasPlace (w : Writing) (f : ChosenFrame) : Type 0 where

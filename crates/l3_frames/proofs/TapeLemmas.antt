@@ -14,6 +14,7 @@ use Rattle.l3_stream.specs.Frames.{code_bits}
 use Rattle.l3_stream.specs.Tape.{start_of, end_of, FitsAt, FramesFit, tape_from}
 use Rattle.l3_frames.specs.Writing.{open_from}
 use Rattle.l3_frames.specs.Laying.{laid_over}
+use Rattle.l3_bits.proofs.Bytes.{bits_of-append}
 use Rattle.l3_frames.proofs.PackingLemmas.{packed-bits_of-append}
 
 pub start-is : (st : Settings) (n begin : ℕ) → start_of st n begin ≡ 8 * (slots_before st n - begin)
@@ -104,9 +105,6 @@ laid_over-then at a b bits mid within is =
     ∙ ap (λ l. take at bits ++ l) (sym (append_assoc a b (drop (at + length (a ++ b)) bits)))))
 
 -- ---- bytes
-
-pub bits_of-append : (xs ys : List ℕ) → bits_of (xs ++ ys) ≡ bits_of xs ++ bits_of ys
-bits_of-append xs ys = flat_map-append (digits 8) xs ys
 
 pub bits_of-zeros : (n : ℕ) → bits_of (replicate n 0) ≡ replicate (8 * n) false
 bits_of-zeros zero = refl

@@ -2,6 +2,7 @@
 use Rattle.std.proofs.Common.{◌≡◌, ℕ, ◌+◌, ◌-◌, ◌*◌, ◌<◌, ◌≤◌, Bool, true, List, [], ◌∷◌, ◌++◌, length, get_or, take, drop, Option, Some, None, refl, sym, ap, ◌∙◌, arith, length-append, length-drop, append_assoc}
 use Rattle.std.proofs.lemmas.List.{take-append-le, drop-append-le, drop-drop, drop-take, take-append-drop, length-take-le, take_at}
 use Rattle.std.proofs.lemmas.Option.{same_Some}
+use Rattle.l3_bits.proofs.Bytes.{bits_of-append}
 use Rattle.l3_bits.specs.Bits.{bits_of, digits, number_of}
 use Rattle.l3_bits.proofs.Numbers.{digits-fold}
 use Rattle.l3_bits.proofs.Places.{length-bits_of}
@@ -21,10 +22,6 @@ drop-between bytes at end n le =
     ap (λ m. drop n (take m (drop at (bits_of bytes)))) whole
     ∙ (drop-take n (end - at - n) (drop at (bits_of bytes))
     ∙ (ap (λ m. take m (drop n (drop at (bits_of bytes)))) rest ∙ ap (take (end - (at + n))) (drop-drop n at (bits_of bytes))))
-
-bits_of-append : (xs ys : List ℕ) → bits_of (xs ++ ys) ≡ bits_of xs ++ bits_of ys
-bits_of-append [] ys = refl
-bits_of-append (x ∷ xs) ys = ap (λ l. digits 8 x ++ l) (bits_of-append xs ys) ∙ sym (append_assoc (digits 8 x) (bits_of xs) (bits_of ys))
 
 -- the bits from a place on begin with those up to the end
 pub ahead : (bytes : List ℕ) (at end : ℕ) → at ≤ 8 * length bytes → (more : List Bool) × (drop at (bits_of (with_zeros bytes)) ≡ between bytes at end ++ more)

@@ -4,6 +4,7 @@ use Rattle.std.specs.Prelude.{⊤}
 use Rattle.std.proofs.Math.Seq.{take-add}
 use Rattle.std.proofs.lemmas.Bool.{le-leb, leb-true, lt-leb}
 use Rattle.std.proofs.lemmas.List.{drop-drop, drop-append-le, length-take-le}
+use Rattle.l3_bits.proofs.Bytes.{bits_of-append}
 use Rattle.l3_bits.specs.Bits.{bits_of, digits}
 use Rattle.l3_bits.proofs.Places.{length-bits_of}
 use Rattle.l3_base.specs.declared.settings.Settings.{Settings}
@@ -78,10 +79,6 @@ module _ (st : Settings) (p : Place) (side : ℕ × List Unit) (slot : List Bool
           (checked_again _ _ (le-leb _ _ le)) e))
 
 -- ---- the bytes kept
-
-bits_of-append : (xs ys : List ℕ) → bits_of (xs ++ ys) ≡ bits_of xs ++ bits_of ys
-bits_of-append [] ys = refl
-bits_of-append (x ∷ xs) ys = ap (λ l. digits 8 x ++ l) (bits_of-append xs ys) ∙ sym (append_assoc (digits 8 x) (bits_of xs) (bits_of ys))
 
 pub start_is : (st : Settings) (n begin slots : ℕ) → slots ≡ slots_before st n → start_of st n begin ≡ 8 * (slots - begin)
 unfolding start_of
