@@ -1,7 +1,8 @@
-ghost use Rattle.std.specs.Prelude.{◌≡◌, ◌<◌, ◌-◌, ◌↔◌, [], min, length, IfOk, OnOk, OnErr, IsErr, Contains};
+ghost use Rattle.std.specs.Prelude.{◌≡◌, ◌<◌, ◌-◌, ◌↔◌, [], Ok, min, length, IfOk, OnOk, OnErr, IsErr, Contains};
 ghost use Rattle.std.specs.Io.{WritesAtMost};
-ghost use Rattle.l3_io.specs.Causes.{HasCause, count_after};
-ghost use Rattle.l3_io.specs.Taken.{WriteTakes, NothingHasCause};
+ghost use Rattle.l3_io.specs.Causes.{WriteHasCause, count_after, last_count};
+ghost use Rattle.std.proofs.Common.{rules};
+ghost use Rattle.l3_io.specs.Taken.{WriteTakes};
 
 use crate::Sink;
 use l3_base::Failed;
@@ -31,8 +32,8 @@ impl Model for MemSink {
 }
 
 impl MemSink {
-    /// A write takes at most `step` bytes, and no more than the room left. Writes are numbered from 0, and just
-    /// those named in `fails` fail.
+    /// A write takes at most `step` bytes, and no more than the room left. Writes of some bytes are
+    /// numbered from 0, and just those named in `fails` fail.
     pub fn new(
         alloc: Global,
         room: usize,
@@ -63,24 +64,26 @@ impl MemSink {
 impl Sink for MemSink {
     ghost taken = { λ s list. list ≡ s.bytes };
 
-    ghost faults = { λ s. s.faults };
+    ghost faults = { λ s. min s.faults last_count };
 
     fn write(&mut self, piece: &[u8]) -> Result<usize, Failed>
         ensures bound { WritesAtMost result piece.now }
         ensures bytes { WriteTakes (λ list. list ≡ self.old.bytes) (λ list. list ≡ self.new.bytes) result piece.now }
-        ensures cause { HasCause self.old.faults self.new.faults result }
-        ensures nothing { NothingHasCause self.old.faults self.new.faults result piece.now }
+        ensures cause { WriteHasCause (min self.old.faults last_count) (min self.new.faults last_count) result piece.now }
+        ensures no_bytes { length piece.now ≡ 0 → (result ≡ Ok 0) × (self.new ≡ self.old) }
 
         // Just the writes that were named fail. Each of them, and each that takes nothing of some bytes, counts once.
-        ensures fails { IsErr result ↔ Contains self.old.fails self.old.writes }
+        ensures fails { 0 < length piece.now → (IsErr result ↔ Contains self.old.fails self.old.writes) }
         ensures counted { OnErr result (self.new.faults ≡ count_after self.old.faults) }
         ensures full { IfOk result (λ n. n ≡ 0 → 0 < length piece.now → self.new.faults ≡ count_after self.old.faults) }
         ensures steady { IfOk result (λ n. 0 < n → self.new.faults ≡ self.old.faults) }
-        ensures empty { OnOk result (length piece.now ≡ 0 → self.new.faults ≡ self.old.faults) }
         ensures count { IfOk result (λ n. n ≡ min (min (self.old.room - length self.old.bytes) self.old.step) (length piece.now)) }
-        ensures number { self.new.writes ≡ count_after self.old.writes }
+        ensures number { 0 < length piece.now → self.new.writes ≡ count_after self.old.writes }
         ensures same { (self.new.room ≡ self.old.room) × (self.new.step ≡ self.old.step) × (self.new.fails ≡ self.old.fails) }
     {
+        if piece.is_empty() {
+            return Ok(0);
+        }
         let number = self.writes;
         self.writes = number.saturating_add(1);
         if self.fails.contains(&number) {
@@ -90,7 +93,7 @@ impl Sink for MemSink {
         let count = (self.room - self.bytes.len())
             .min(self.step)
             .min(piece.len());
-        if count == 0 && !piece.is_empty() {
+        if count == 0 {
             self.faults = self.faults.saturating_add(1);
         }
         if self.bytes.extend_from_slice(&piece[..count]).is_err() {
@@ -98,4 +101,6 @@ impl Sink for MemSink {
         }
         Ok(count)
     }
+
+    ghost possible = { λ s. Prim.search rules };
 }

@@ -1,7 +1,8 @@
-ghost use Rattle.std.specs.Prelude.{◌≡◌, ◌<◌, ◌+◌, ◌↔◌, List, ℕ, min, take, length, Some, IfOk, OnOk, OnErr, IsErr, Contains};
+ghost use Rattle.std.specs.Prelude.{◌≡◌, ◌<◌, ◌+◌, ◌↔◌, List, ℕ, Ok, min, take, length, Some, IfOk, OnOk, OnErr, IsErr, IsOk, Contains};
 ghost use Rattle.std.specs.Io.{ReadsAtMost};
 ghost use Rattle.std.specs.Io.KnownBytes.{ReadConsumes};
-ghost use Rattle.l3_io.specs.Causes.{HasCause, count_after};
+ghost use Rattle.l3_io.specs.Causes.{HasCause, count_after, last_count};
+ghost use Rattle.std.proofs.Common.{rules};
 
 use crate::Source;
 use l3_base::Failed;
@@ -41,7 +42,8 @@ impl Model for MemSource {
 }
 
 impl MemSource {
-    /// A read gives at most `step` bytes. Reads are numbered from 0, and just those named in `fails` fail.
+    /// A read gives at most `step` bytes. Reads into some room are numbered from 0, and just those
+    /// named in `fails` fail.
     pub fn new(
         alloc: Global,
         bytes: &[u8],
@@ -65,21 +67,25 @@ impl MemSource {
 impl Source for MemSource {
     ghost left = { λ s. Some s.left };
 
-    ghost faults = { λ s. s.faults };
+    ghost faults = { λ s. min s.faults last_count };
 
     fn read(&mut self, buf: &mut [u8]) -> Result<usize, Failed>
         ensures bound { ReadsAtMost result buf.new }
         ensures bytes { ReadConsumes (Some self.old.left) (Some self.new.left) result buf.new }
-        ensures cause { HasCause self.old.faults self.new.faults result }
+        ensures cause { HasCause (min self.old.faults last_count) (min self.new.faults last_count) result }
+        ensures no_room { length buf.old ≡ 0 → (result ≡ Ok 0) × (self.new ≡ self.old) }
 
         // Just the reads that were named fail, and each of them counts once.
-        ensures fails { IsErr result ↔ Contains self.old.fails self.old.reads }
+        ensures fails { 0 < length buf.old → (IsErr result ↔ Contains self.old.fails self.old.reads) }
         ensures counted { OnErr result (self.new.faults ≡ count_after self.old.faults) }
         ensures steady { OnOk result (self.new.faults ≡ self.old.faults) }
         ensures piece { IfOk result (λ n. n ≡ min (min (length self.old.left) self.old.step) (length buf.old)) }
-        ensures number { self.new.reads ≡ count_after self.old.reads }
+        ensures number { 0 < length buf.old → self.new.reads ≡ count_after self.old.reads }
         ensures same { (self.new.step ≡ self.old.step) × (self.new.fails ≡ self.old.fails) }
     {
+        if buf.is_empty() {
+            return Ok(0);
+        }
         let number = self.reads;
         self.reads = number.saturating_add(1);
         if self.fails.contains(&number) {
@@ -90,6 +96,8 @@ impl Source for MemSource {
         self.at += count;
         Ok(count)
     }
+
+    ghost possible = { λ s. Prim.search rules };
 }
 
 /// Bytes in memory, whose reads never fail and give as much as there is room for.
@@ -130,10 +138,14 @@ impl Source for SteadySource {
         ensures bound { ReadsAtMost result buf.new }
         ensures bytes { ReadConsumes (Some self.old) (Some self.new) result buf.new }
         ensures cause { HasCause 0 0 result }
+        ensures no_room { length buf.old ≡ 0 → (result ≡ Ok 0) × (self.new ≡ self.old) }
+        ensures served { IsOk result }
         ensures piece { IfOk result (λ n. n ≡ min (length self.old) (length buf.old)) }
     {
         let count = give(&self.bytes[self.at..], usize::MAX, buf);
         self.at += count;
         Ok(count)
     }
+
+    ghost possible = { λ s. Prim.search rules };
 }
