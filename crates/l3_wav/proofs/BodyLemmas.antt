@@ -1,11 +1,15 @@
 -- What is passed and what is gone, and what a chunk's body tells.
-use Rattle.std.proofs.Common.{◌≡◌, ◌∙◌, sym, ap, subst, refl, ℕ, ◌+◌, ◌≤◌, Bool, true, false, List, [], length, take, drop, min, arith, inl, inr, ◌⊎◌, length-drop}
-use Rattle.std.specs.Prelude.{Option, Some, None, is_some, IfSome, Result, Ok, Err}
+use Rattle.std.proofs.Common.{◌≡◌, ◌∙◌, sym, ap, subst, refl, ℕ, ◌+◌, ◌≤◌, Bool, true, false, List, [], length, take, drop, min, arith, inl, inr, ◌⊎◌, length-drop, length-append, ◌<◌}
+use Rattle.std.specs.Prelude.{Option, Some, None, is_some, IfSome, IfErr, Result, Ok, Err}
+use Rattle.std.proofs.Math.Seq.{drop-append_seam}
+use Rattle.l3_io.specs.Causes.{Rose, count_after}
+use Rattle.l3_wav.specs.declared.fault.WavFault.TheVariants.{Read}
 use Rattle.std.specs.Io.KnownBytes.{Consumes}
 use Rattle.std.proofs.lemmas.List.{length-take, take-append-drop, drop-drop}
 use Rattle.l3_wav.specs.declared.fields.Format.{Format}
 use Rattle.l3_wav.specs.declared.fault.WavFault.{WavFault}
-use Rattle.l3_wav.specs.Wav.{format_of, known_by, format_after, padded, fields_in}
+use Rattle.l3_wav.specs.Wav.{format_of, known_by, format_after, padded, fields_in, FaultCause}
+use Rattle.l3_wav.proofs.TailLemmas.{HasLost-after, HasLost-within}
 use Rattle.l3_wav.specs.Steps.{HasPassed, EndsWithin, ReadsBody}
 
 -- bytes that were passed are gone
@@ -48,13 +52,13 @@ rest_ends None mid now n m fault first ends = tt
 rest_ends (Some bytes) mid now n m fault first ends =
     let here : EndsWithin m fault (drop n bytes) now = rw first.rest at ends in
     elim here [
-      | inl failed ↦ inl failed
+      | inl failed ↦ inl (failed.0, HasLost-after n m bytes now first.there failed.1)
       | inr early ↦ inr (early.0, omega (arith, early.1, length-drop n bytes, first.there), early.2)
     ]
 
 -- the end comes within a greater bound
-ends_within : (n m : ℕ) (fault : WavFault) (bytes : List ℕ) (now : Option (List ℕ)) → n ≤ m → EndsWithin n fault bytes now → EndsWithin m fault bytes now
-ends_within n m fault bytes now low (inl failed) = inl failed
+pub ends_within : (n m : ℕ) (fault : WavFault) (bytes : List ℕ) (now : Option (List ℕ)) → n ≤ m → EndsWithin n fault bytes now → EndsWithin m fault bytes now
+ends_within n m fault bytes now low (inl failed) = inl (failed.0, HasLost-within n m bytes now low failed.1)
 ends_within n m fault bytes now low (inr early) = inr (early.0, omega (arith, early.1), early.2)
 
 -- the body ends early
@@ -88,3 +92,37 @@ fields_told (Some bytes) mid now format is_format size m fields read result firs
     (tells format is_format (fields_in size bytes) first is
     ∙ (ap (λ l. known_by (format_of l)) begins
     ∙ (ap known_by (sym said) ∙ sym gives)))
+
+-- a read failed, and fewer bytes than these are gone
+pub lost_front : (old now : Option (List ℕ)) (n : ℕ) → ((front : List ℕ) × (length front < n) × Consumes old now front) →
+    IfSome old (λ bytes. EndsWithin n Read bytes now)
+lost_front None now n gone = tt
+lost_front (Some bytes) None n gone = absurd gone.2
+lost_front (Some bytes) (Some rest) n gone = inl (
+  refl,
+  record {
+    count = length gone.0;
+    low = omega (arith, gone.1);
+    there = omega (arith, ap length gone.2, length-append gone.0 rest);
+    rest = ap Some (sym (ap (drop (length gone.0)) gone.2 ∙ drop-append_seam gone.0 rest));
+  },
+)
+
+-- the end or the fault comes behind bytes that were passed
+pub stretch_ends : (old mid now : Option (List ℕ)) (n m most : ℕ) (fault : WavFault) → n + m ≤ most → IfSome old (λ bytes. HasPassed n bytes mid) →
+    IfSome mid (λ rest. EndsWithin m fault rest now) → IfSome old (λ bytes. EndsWithin most fault bytes now)
+stretch_ends None mid now n m most fault low first ends = tt
+stretch_ends (Some bytes) mid now n m most fault low first ends = ends_within (n + m) most fault bytes now low (rest_ends (Some bytes) mid now n m fault first ends)
+
+-- the cause of a fault behind reads that did not fail
+pub FaultCause-from : (before mid now : ℕ) (fault : WavFault) → mid ≡ before → FaultCause mid now fault → FaultCause before now fault
+FaultCause-from before mid now fault same cause = rw same at cause
+
+pub FaultCause-as : {T : Type 0} (before now : ℕ) (result : Result T WavFault) (fault : WavFault) → result ≡ Err fault → FaultCause before now fault → IfErr result (FaultCause before now)
+FaultCause-as before now result fault is cause = rw is cause
+
+-- a read fault has its cause
+pub FaultCause-rose : {T : Type 0} (before now : ℕ) (result : Result T WavFault) → IfErr result (FaultCause before now) → result ≡ Err Read → Rose before now
+FaultCause-rose before now result cause is =
+    let one : now ≡ count_after before = rw is at cause in
+    omega (arith, one)

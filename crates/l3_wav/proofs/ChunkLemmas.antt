@@ -1,6 +1,6 @@
 -- What chunk after chunk tells of a file.
 use Rattle.std.proofs.Common.{◌≡◌, ◌∙◌, sym, ap, subst, refl, ℕ, zero, suc, ◌+◌, ◌-◌, ◌*◌, ◌<◌, ◌≤◌, Bool, true, false, cond, List, [], length, take, drop, nat_lt, arith, inl, inr, length-drop}
-use Rattle.std.specs.Prelude.{Option, Some, None, IfSome, Result, Ok, Err, bytes_eq, codes, if◌then◌else◌}
+use Rattle.std.specs.Prelude.{Option, Some, None, IfSome, Result, Ok, Err, bytes_eq, codes}
 use Rattle.std.specs.Io.KnownBytes.{Consumes}
 use Rattle.std.proofs.lemmas.List.{drop-drop}
 use Rattle.std.proofs.lemmas.Bool.{cond-true, cond-false, lt-ltb, le-ltb, ltb-false}
@@ -9,25 +9,10 @@ use Rattle.l3_wav.specs.declared.head.WavHead.{WavHead}
 use Rattle.l3_wav.specs.declared.fault.WavFault.{WavFault}
 use Rattle.l3_wav.specs.declared.fault.WavFault.TheVariants.{HeaderTooLong}
 use Rattle.l3_wav.specs.Wav.{Said, u32_at, format_after, padded, fields_in, ends_early, head_by, after_body, head_limit, most_chunks, chunks_from}
+use Rattle.l3_wav.proofs.ChunkForms.{chunk_after, chunk_by, chunks_from-suc}
+use Rattle.l3_wav.proofs.TailLemmas.{chunk_by-tail, chunks_from-tail, body-tail, lost-before}
 use Rattle.l3_wav.proofs.BodyLemmas.{gone-passed, HasPassed-then}
 use Rattle.l3_wav.specs.Steps.{HasPassed, EndsWithin, ReadsBody, Opens}
-
--- the chunk that a file goes on with
-abbrev chunk_after : (Option Format → ℕ → List ℕ → Said) → Option Format → ℕ → Bool → Bool → ℕ → List ℕ → Said
-chunk_after next format read is_data is_format size body =
-    if is_data then record { answer = head_by format size; left = body }
-    else (if nat_lt head_limit (read + 8 + padded size) then record { answer = Err HeaderTooLong; left = body }
-    else (if nat_lt (length body) (padded size) then ends_early
-    else after_body (format_after format is_format (fields_in size body)) (drop (padded size) body) (λ known. next known (read + 8 + padded size) (drop (padded size) body))))
-
-abbrev chunk_by : (Option Format → ℕ → List ℕ → Said) → Option Format → ℕ → List ℕ → Said
-chunk_by next format read bytes =
-    if nat_lt (length bytes) 8 then ends_early
-    else chunk_after next format read (bytes_eq (take 4 (take 8 bytes)) (codes "data")) (bytes_eq (take 4 (take 8 bytes)) (codes "fmt ")) (u32_at (take 8 bytes) 4) (drop 8 bytes)
-
-chunks_from-suc : (count : ℕ) (format : Option Format) (read : ℕ) (bytes : List ℕ) → chunks_from (suc count) format read bytes ≡ chunk_by (chunks_from count) format read bytes
-unfolding chunks_from
-chunks_from-suc count format read bytes = refl
 
 cond-same : {A : Type 0} (b : Bool) (x y z : A) → (b ≡ false → y ≡ z) → cond b x y ≡ cond b x z
 cond-same true x y z same = refl
@@ -92,8 +77,8 @@ pub record IsInChunk (bytes : List ℕ) (format : Option Format) (read : ℕ) (i
   pub told : chunks_from most_chunks None 12 bytes ≡ chunk_after (chunks_from count) format read is_data is_format size (drop (passed + 8) bytes)
 
 -- the answer is what was said
-pub opens_as : (said is : Said) (result : Result WavHead WavFault) (now : Option (List ℕ)) → said ≡ is → is.answer ≡ result → now ≡ Some is.left → Opens result now said
-opens_as said is result now same answer left = inr (ap (λ s. s.answer) same ∙ answer, left ∙ ap (λ s. Some s.left) (sym same))
+pub opens_as : (bytes : List ℕ) (said is : Said) (result : Result WavHead WavFault) (now : Option (List ℕ)) → said ≡ is → is.answer ≡ result → now ≡ Some is.left → Opens bytes result now said
+opens_as bytes said is result now same answer left = inr (ap (λ s. s.answer) same ∙ answer, left ∙ ap (λ s. Some s.left) (sym same))
 
 -- at the first chunk
 pub IsAt-first : (old : Option (List ℕ)) → IfSome old (λ bytes. IsAt bytes None 12 old)
@@ -123,17 +108,20 @@ gone_at (Some bytes) now format read at =
 
 -- the file ends before a chunk's 8 bytes
 pub chunk_ends : (old mid now : Option (List ℕ)) (format : Option Format) (read : ℕ) (fault : WavFault) → IfSome old (λ bytes. IsAt bytes format read mid) → read ≤ head_limit →
-    IfSome mid (λ rest. EndsWithin 8 fault rest now) → IfSome old (λ bytes. Opens (Err fault) now (chunks_from most_chunks None 12 bytes))
+    IfSome mid (λ rest. EndsWithin 8 fault rest now) → IfSome old (λ bytes. Opens bytes (Err fault) now (chunks_from most_chunks None 12 bytes))
 chunk_ends None mid now format read fault at within ends = tt
 chunk_ends (Some bytes) mid now format read fault at within ends =
     let rest = drop at.passed bytes in
     let here : EndsWithin 8 fault rest now = rw at.has.rest at ends in
+    let more = one_more at.count read format rest (chunks_from most_chunks None 12 bytes) within at.enough at.told in
     elim here [
-      | inl failed ↦ inl (ap Err failed)
+      | inl failed ↦
+          let tail = chunk_by-tail (chunks_from more.0) (chunks_from-tail more.0) format read rest in
+          let end = rw (← more.2) at tail in
+          inl (ap Err failed.0, lost-before at.passed 8 bytes (chunks_from most_chunks None 12 bytes).left now at.has.there failed.1 end)
       | inr early ↦
-          let more = one_more at.count read format rest (chunks_from most_chunks None 12 bytes) within at.enough at.told in
           let said : chunks_from most_chunks None 12 bytes ≡ ends_early = more.2 ∙ cond-true _ _ _ (lt-ltb (length rest) 8 early.1) in
-          opens_as (chunks_from most_chunks None 12 bytes) ends_early (Err fault) now said (ap Err (sym early.0)) early.2
+          opens_as bytes (chunks_from most_chunks None 12 bytes) ends_early (Err fault) now said (ap Err (sym early.0)) early.2
     ]
 
 -- the 8 bytes are there
@@ -169,18 +157,18 @@ chunk_begins (Some bytes) mid now format read size is_data is_format head at wit
 -- the data begins
 pub opens_data : (old now : Option (List ℕ)) (format : Option Format) (read size : ℕ) (is_data is_format : Bool) (result : Result WavHead WavFault) →
     IfSome old (λ bytes. IsInChunk bytes format read is_data is_format size now) → is_data ≡ true →
-    result ≡ head_by format size → IfSome old (λ bytes. Opens result now (chunks_from most_chunks None 12 bytes))
+    result ≡ head_by format size → IfSome old (λ bytes. Opens bytes result now (chunks_from most_chunks None 12 bytes))
 opens_data None now format read size is_data is_format result at is gives = tt
 opens_data (Some bytes) now format read size is_data is_format result at is gives =
-    opens_as (chunks_from most_chunks None 12 bytes) (record { answer = head_by format size; left = drop (at.passed + 8) bytes }) result now (at.told ∙ cond-true _ _ _ is) (sym gives) at.has.rest
+    opens_as bytes (chunks_from most_chunks None 12 bytes) (record { answer = head_by format size; left = drop (at.passed + 8) bytes }) result now (at.told ∙ cond-true _ _ _ is) (sym gives) at.has.rest
 
 -- the chunk would end behind the limit
 pub too_long : (old now : Option (List ℕ)) (format : Option Format) (read size : ℕ) (is_data is_format : Bool) →
     IfSome old (λ bytes. IsInChunk bytes format read is_data is_format size now) → is_data ≡ false → head_limit < read + 8 + padded size →
-    IfSome old (λ bytes. Opens (Err HeaderTooLong) now (chunks_from most_chunks None 12 bytes))
+    IfSome old (λ bytes. Opens bytes (Err HeaderTooLong) now (chunks_from most_chunks None 12 bytes))
 too_long None now format read size is_data is_format at other long = tt
 too_long (Some bytes) now format read size is_data is_format at other long =
-    opens_as (chunks_from most_chunks None 12 bytes) (record { answer = Err HeaderTooLong; left = drop (at.passed + 8) bytes }) (Err HeaderTooLong) now
+    opens_as bytes (chunks_from most_chunks None 12 bytes) (record { answer = Err HeaderTooLong; left = drop (at.passed + 8) bytes }) (Err HeaderTooLong) now
     (at.told ∙ (cond-false _ _ _ other ∙ cond-true _ _ _ (lt-ltb head_limit (read + 8 + padded size) long))) refl at.has.rest
 
 -- the chunk is within the limit
@@ -207,18 +195,24 @@ whole_body bytes now next format read size is_data is_format at other within tol
 -- the body is refused
 pub body_refused : (old mid now : Option (List ℕ)) (format : Option Format) (read size : ℕ) (is_data is_format : Bool) (fault : WavFault) →
     IfSome old (λ bytes. IsInChunk bytes format read is_data is_format size mid) → is_data ≡ false → read + 8 + padded size ≤ head_limit →
-    IfSome mid (λ rest. ReadsBody (padded size) rest now (Err fault) (format_after format is_format (fields_in size rest))) → IfSome old (λ bytes. Opens (Err fault) now (chunks_from most_chunks None 12 bytes))
+    IfSome mid (λ rest. ReadsBody (padded size) rest now (Err fault) (format_after format is_format (fields_in size rest))) → IfSome old (λ bytes. Opens bytes (Err fault) now (chunks_from most_chunks None 12 bytes))
 body_refused None mid now format read size is_data is_format fault at other within reads = tt
 body_refused (Some bytes) mid now format read size is_data is_format fault at other within reads =
     let said = chunks_from most_chunks None 12 bytes in
     let body = drop (at.passed + 8) bytes in
     let here : ReadsBody (padded size) body now (Err fault) (format_after format is_format (fields_in size body)) = rw at.has.rest at reads in
     elim here [
-      | inl refuses ↦ opens_as said (record { answer = Err fault; left = drop (padded size) body }) (Err fault) now
+      | inl refuses ↦ opens_as bytes said (record { answer = Err fault; left = drop (padded size) body }) (Err fault) now
           (whole_body bytes mid now format read size is_data is_format at other within (Err fault) refuses.0 refuses.1) refl refuses.0.rest
       | inr ends ↦ elim ends [
-        | inl failed ↦ inl (ap Err failed)
-        | inr early ↦ opens_as said ends_early (Err fault) now
+        | inl failed ↦
+            let told = format_after format is_format (fields_in size body) in
+            let end = read + 8 + padded size in
+            let rest = drop (padded size) body in
+            let tail = body-tail told size body (λ known. chunks_from at.count known end rest) (λ known. chunks_from-tail at.count known end rest) in
+            let is = in_body bytes mid format read size is_data is_format at other within in
+            inl (ap Err failed.0, lost-before (at.passed + 8) (padded size) bytes said.left now at.has.there failed.1 (rw (← is) at tail))
+        | inr early ↦ opens_as bytes said ends_early (Err fault) now
             (in_body bytes mid format read size is_data is_format at other within ∙ cond-true _ _ _ (lt-ltb (length body) (padded size) early.1)) (ap Err (sym early.0)) early.2
       ]
     ]
@@ -244,6 +238,6 @@ goes_on (Some bytes) mid now format known read size is_data is_format at other w
 
 -- an answer that is this fault
 pub fault_told : (old now : Option (List ℕ)) (result : Result WavHead WavFault) (fault : WavFault) (said : List ℕ → Said) → result ≡ Err fault →
-    IfSome old (λ bytes. Opens (Err fault) now (said bytes)) → IfSome old (λ bytes. Opens result now (said bytes))
+    IfSome old (λ bytes. Opens bytes (Err fault) now (said bytes)) → IfSome old (λ bytes. Opens bytes result now (said bytes))
 fault_told None now result fault said is told = tt
 fault_told (Some bytes) now result fault said is told = rw is told

@@ -1,7 +1,10 @@
 pub mod BodyLemmas
+pub mod ChunkForms
 pub mod ChunkLemmas
+pub mod FileLemmas
 pub mod HeadLemmas
 pub mod OpenLemmas
 pub mod PcmLemmas
 pub mod RangeLemmas
 pub mod SampleLemmas
+pub mod TailLemmas

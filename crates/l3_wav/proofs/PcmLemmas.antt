@@ -1,8 +1,11 @@
 -- Samples channel by channel, block by block.
 use Rattle.std.proofs.Common.{◌≡◌, ◌∙◌, sym, ap, refl, ℕ, suc, ◌+◌, ◌-◌, ◌*◌, ◌/◌, ◌%◌, ◌<◌, ◌≤◌, Bool, true, false, cond, List, [], ◌∷◌, ◌++◌, ℤ, pos, length, take, drop, get_or, nat_lt, arith, append_assoc, append-nil, subst, length-append, length-take-le, rules}
 use Rattle.std.specs.Prelude.{Option, Some, None, IfSome}
-use Rattle.std.proofs.lemmas.List.{drop-drop, drop_more, take-append-drop, take_all}
+use Rattle.std.proofs.lemmas.List.{length-take, drop-drop, drop_more, take-append-drop, take_all}
 use Rattle.std.proofs.Math.Seq.{take-add}
+use Rattle.std.proofs.lemmas.Option.{IfSome_then}
+use Rattle.std.specs.Io.KnownBytes.{Consumes}
+use Rattle.l3_io.proofs.ReadLemmas.{Consumes-then}
 use Rattle.std.proofs.lemmas.Bool.{lt-ltb}
 use Rattle.l3_base.specs.declared.rate.Channels.{Channels}
 use Rattle.l3_base.specs.declared.rate.Channels.TheVariants.{Mono, Stereo}
@@ -222,6 +225,35 @@ all_given channels first failed left_first left_now lefts rights ended = record 
     content_rest None has = tt
     content_rest (Some l) has = has.left_is ∙ ap Some has.after
 
+-- the bytes gone with n values, and those still declared behind them
+pub gone_values : (samples : SamplesState) (n wanted : ℕ) (mid new : Option (List ℕ)) → 2 * n ≤ samples.remaining →
+    IfSome mid (λ l. new ≡ Some (left_after samples n wanted l)) →
+    (front : List ℕ) × (length front + (samples_after samples n wanted).remaining ≤ samples.remaining) × Consumes mid new front
+gone_values samples n wanted None new declared is = ([], omega (arith, remaining_after (nat_lt n wanted) n samples.remaining declared), tt)
+gone_values samples n wanted (Some l) new declared is = by_test (nat_lt n wanted) is
+  where
+    by_test : (short : Bool) → new ≡ Some (cond short (drop samples.remaining l) (drop (2 * n) l)) →
+        (front : List ℕ) × (length front + cond short 0 (samples.remaining - 2 * n) ≤ samples.remaining) × Consumes (Some l) new front
+    by_test true is = (take samples.remaining l, omega (arith, length-take samples.remaining l), rw is (sym (take-append-drop samples.remaining l)))
+    by_test false is = (take (2 * n) l, omega (arith, declared, length-take (2 * n) l), rw is (sym (take-append-drop (2 * n) l)))
+
+-- bytes gone in two turns, and those still declared
+pub gone_further : (old mid new : Option (List ℕ)) (all between now : ℕ) → ((front : List ℕ) × (length front + between ≤ all) × Consumes old mid front) →
+    ((front : List ℕ) × (length front + now ≤ between) × Consumes mid new front) → (front : List ℕ) × (length front + now ≤ all) × Consumes old new front
+gone_further old mid new all between now first second =
+    (first.0 ++ second.0, omega (arith, length-append first.0 second.0, first.1, second.1), Consumes-then old mid new first.0 second.0 first.2 second.2)
+
+-- no more than all that are declared
+pub gone_most : (old now : Option (List ℕ)) (all more : ℕ) → ((front : List ℕ) × (length front + more ≤ all) × Consumes old now front) →
+    (front : List ℕ) × (length front ≤ all) × Consumes old now front
+gone_most old now all more gone = (gone.0, omega (arith, gone.1), gone.2)
+
+-- so are those of a fault behind them
+pub gone_at_fault : (old mid now : Option (List ℕ)) (all between : ℕ) → ((front : List ℕ) × (length front + between ≤ all) × Consumes old mid front) →
+    ((front : List ℕ) × (length front ≤ between) × Consumes mid now front) → (front : List ℕ) × (length front ≤ all) × Consumes old now front
+gone_at_fault old mid now all between first second =
+    (first.0 ++ second.0, omega (arith, length-append first.0 second.0, first.1, second.1), Consumes-then old mid now first.0 second.0 first.2 second.2)
+
 -- a turn of the loop: a block was read, and its channels were added
 module _ (channels : Channels) (first samples now : SamplesState) (n : ℕ) (block lefts rights lefts_now rights_now : List ℤ) (left_first left_mid left_now : Option (List ℕ))
     (state : samples ≡ unread channels samples.remaining) (so_far : AreChannels channels first samples left_first left_mid lefts rights)
@@ -245,6 +277,9 @@ module _ (channels : Channels) (first samples now : SamplesState) (n : ℕ) (blo
 
       lists : AreChannels channels first (samples_after samples n (length block)) left_first left_now lefts_now rights_now
       lists = subst (λ l. AreChannels channels first (samples_after samples n (length block)) left_first left_now l rights_now) (sym added_left) one
+
+  pub turn_gone : (front : List ℕ) × (length front + now.remaining ≤ samples.remaining) × Consumes left_mid left_now front
+  turn_gone = rw now_is (gone_values samples n (length block) left_mid left_now declared (IfSome_then left_mid content (λ l read. read.rest)))
 
   pub turn_last : n < length block → GivesAll channels first left_first left_now lefts_now rights_now
   turn_last lt =

@@ -10,7 +10,7 @@ use Rattle.l3_base.specs.declared.rate.Channels.TheVariants.{Mono, Stereo}
 use Rattle.l3_wav.specs.Pcm.{firsts, seconds, left_of, right_of}
 use Rattle.l3_wav.specs.Samples.{value_of, values_of}
 
-value_of-fits : (low high : ℕ) → low < 256 → high < 256 → FitsSigned w16 (value_of low high)
+pub value_of-fits : (low high : ℕ) → low < 256 → high < 256 → FitsSigned w16 (value_of low high)
 value_of-fits low high l h = sfits_to_z (omega (arith, l, h))
 
 pub values_of-fit : (bytes : List ℕ) → ((i : ℕ) → get_or bytes i 0 < 256) → All (FitsSigned w16) (values_of bytes)

@@ -100,7 +100,7 @@ module _ (channels : Channels) (declared : ℕ) (left : List ℕ) (n : ℕ) wher
       let short : 2 * n ≤ declared = omega (arith, length-take declared left, low, most) in
       take-values_of n (whole_samples channels within) ∙ ap values_of (inner ∙ take-take (2 * n) declared left short)
 
-  long : length (coming state left) + length (coming state left) ≡ whole_bytes channels (length within)
+  pub long : length (coming state left) + length (coming state left) ≡ whole_bytes channels (length within)
   long =
       let m = length within in
       let half = m / block_align channels * channels_of channels in

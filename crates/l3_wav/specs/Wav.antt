@@ -1,13 +1,13 @@
 -- What the head of a WAV file says, and which fault refuses one.
 -- A file is RIFF: 12 bytes of form WAVE, then chunks. A chunk is an id of 4 bytes, a size of 4, a body of so many bytes,
 -- and one pad byte after an odd size. Every number has its low byte first. The head ends where the body of `data` begins.
-use Rattle.std.specs.Prelude.{◌≡◌, ℕ, suc, zero, ◌+◌, ◌*◌, ◌%◌, ◌==◌, ◌&&◌, ◌||◌, Bool, List, [], ◌∷◌, Option, Some, None, Result, Ok, Err, length, take, drop, min, nat_le, nat_lt, slice_index, slice_range, bytes_eq, codes, if◌then◌else◌}
+use Rattle.std.specs.Prelude.{◌≡◌, ◌≤◌, ℕ, suc, zero, ◌+◌, ◌*◌, ◌%◌, ◌==◌, ◌&&◌, ◌||◌, Bool, List, [], ◌∷◌, Option, Some, None, Result, Ok, Err, length, take, drop, min, nat_le, nat_lt, slice_index, slice_range, bytes_eq, codes, if◌then◌else◌}
 use Rattle.l3_base.specs.Rates.{channels_of}
 use Rattle.l3_base.specs.declared.rate.Channels.{Channels}
 use Rattle.l3_base.specs.declared.rate.Channels.TheVariants.{Mono, Stereo}
 use Rattle.l3_base.specs.declared.rate.SampleRate.{SampleRate}
 use Rattle.l3_base.specs.declared.rate.SampleRate.TheVariants.{Hz44100, Hz48000, Hz32000}
-use Rattle.l3_io.specs.Causes.{Rose}
+use Rattle.l3_io.specs.Causes.{Rose, count_after}
 use Rattle.l3_wav.specs.declared.fields.Format.{Format}
 use Rattle.l3_wav.specs.declared.head.WavHead.{WavHead}
 use Rattle.l3_wav.specs.declared.fault.WavFault.{WavFault}
@@ -135,6 +135,18 @@ wav_of bytes = (file_of bytes).answer
 -- what follows the head of a file; of a refused one, what follows the bytes that refuse it
 unfoldable pub after_head : List ℕ → List ℕ
 after_head bytes = (file_of bytes).left
+
+-- of the first bytes no more than so many are gone
+pub record HasLost (most : ℕ) (bytes : List ℕ) (now : Option (List ℕ)) : Type 0 where
+  pub count : ℕ
+  pub low : count ≤ most
+  pub there : count ≤ length bytes
+  pub rest : now ≡ Some (drop count bytes)
+
+-- one read failed, the last one, where that is the fault; at every other fault none did
+abbrev pub FaultCause : ℕ → ℕ → WavFault → Type 0
+FaultCause before now Read = now ≡ count_after before
+FaultCause before now fault = now ≡ before
 
 -- what opening gives: a read fault has its cause, and any other answer is the file's own;
 -- so where the count of faults was steady, the answer is the file's

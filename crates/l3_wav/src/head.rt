@@ -1,7 +1,7 @@
-ghost use Rattle.std.specs.Prelude.{◌≡◌, ◌≢◌, ◌-◌, ◌≤◌, List, ℕ, None, Some, Ok, Err, IfSome, OnOk, OnErr, length, take, bytes_eq};
+ghost use Rattle.std.specs.Prelude.{◌≡◌, ◌≢◌, ◌-◌, ◌≤◌, List, ℕ, None, Some, Ok, Err, IfSome, IfErr, OnOk, OnErr, length, take, bytes_eq};
 ghost use Rattle.std.specs.Io.KnownBytes.{Consumes};
 ghost use Rattle.l3_io.specs.Causes.{Rose};
-ghost use Rattle.l3_wav.specs.Wav.{is_riff, padded, format_after, fields_in, head_by, chunks_from, most_chunks, head_limit, wav_of, after_head, OpenGives};
+ghost use Rattle.l3_wav.specs.Wav.{is_riff, padded, format_after, fields_in, head_by, chunks_from, most_chunks, head_limit, wav_of, after_head, FaultCause, HasLost, OpenGives};
 ghost use Rattle.l3_wav.specs.Steps.{ReadsBody, Opens};
 
 use crate::WavFault;
@@ -65,7 +65,8 @@ fn read_body<S: Source>(
         ReadsBody (padded size) bytes (S.left source.new) result (format_after format is_format (fields_in size bytes))) }
     ensures some { OnErr result ((bytes : List ℕ) × (length bytes ≤ padded size) × Consumes (S.left source.old) (S.left source.new) bytes) }
     ensures later { S.faults source.old ≤ S.faults source.new }
-    ensures read { result ≡ Err WavFault.Read → Rose (S.faults source.old) (S.faults source.new) }
+    ensures served { OnOk result (S.faults source.new ≡ S.faults source.old) }
+    ensures cause { IfErr result (FaultCause (S.faults source.old) (S.faults source.new)) }
 {
     if format.is_some() || !is_format {
         skip(source, padded(size))?;
@@ -95,10 +96,11 @@ fn data_head(format: Option<Format>, size: u32) -> Result<WavHead, WavFault>
 
 // Reads chunks up to the first byte of the data.
 fn read_chunks<S: Source>(source: &mut S) -> Result<WavHead, WavFault>
-    ensures told { IfSome (S.left source.old) (λ bytes. Opens result (S.left source.new) (chunks_from most_chunks None 12 bytes)) }
+    ensures told { IfSome (S.left source.old) (λ bytes. Opens bytes result (S.left source.new) (chunks_from most_chunks None 12 bytes)) }
     ensures some { OnErr result ((bytes : List ℕ) × (length bytes ≤ head_limit - 4) × Consumes (S.left source.old) (S.left source.new) bytes) }
     ensures later { S.faults source.old ≤ S.faults source.new }
-    ensures read { result ≡ Err WavFault.Read → Rose (S.faults source.old) (S.faults source.new) }
+    ensures served { OnOk result (S.faults source.new ≡ S.faults source.old) }
+    ensures cause { IfErr result (FaultCause (S.faults source.old) (S.faults source.new)) }
 {
     let mut format = None;
     let mut read = RIFF_BYTES;
@@ -132,6 +134,12 @@ pub fn open<S: Source>(source: &mut S) -> Result<WavHead, WavFault>
     ensures some { OnErr result ((bytes : List ℕ) × (length bytes ≤ 1048584) × Consumes (S.left source.old) (S.left source.new) bytes) }
     ensures later { S.faults source.old ≤ S.faults source.new }
     ensures read { result ≡ Err WavFault.Read → Rose (S.faults source.old) (S.faults source.new) }
+
+    // Where a read failed it was the last one, and what is left is what the head's bytes leave, or more.
+    ensures served { OnOk result (S.faults source.new ≡ S.faults source.old) }
+    ensures cause { IfErr result (FaultCause (S.faults source.old) (S.faults source.new)) }
+    ensures lost { result ≡ Err WavFault.Read → IfSome (S.left source.old) (λ bytes.
+        HasLost (length bytes - length (after_head bytes)) bytes (S.left source.new)) }
 {
     let mut head = [0; RIFF_BYTES];
     fill(source, &mut head)?;

@@ -3,6 +3,7 @@
 //! Before: `l3_io`, sources of bytes. After: the program, which encodes the samples.
 #![tactic(auto)]
 
+mod block;
 mod fault;
 mod fields;
 mod head;
@@ -13,7 +14,7 @@ mod samples;
 
 pub use fault::WavFault;
 pub use head::{WavHead, open};
-pub use laws::chunks_in_a_head;
+pub use laws::{chunks_in_a_head, samples_of_a_file};
 pub use pcm::{Pcm, PcmFault, read_all};
 pub use samples::Samples;
 

@@ -1,5 +1,6 @@
-ghost use Rattle.std.specs.Prelude.{◌≡◌, ◌≤◌, ◌%◌, ◌++◌, All, FitsSigned, Some, IfErr, IfOk, IfSome, OnOk, drop, length};
+ghost use Rattle.std.specs.Prelude.{◌≡◌, ◌≤◌, ◌%◌, ◌++◌, All, ℕ, List, FitsSigned, Some, IfErr, IfOk, IfSome, OnErr, OnOk, drop, length};
 ghost use Rattle.std.specs.Int.{w16};
+ghost use Rattle.std.specs.Io.KnownBytes.{Consumes};
 ghost use Rattle.l3_base.specs.Rates.{channels_of};
 ghost use Rattle.l3_wav.specs.Pcm.{PcmCause, firsts, left_of, right_count, right_of, seconds};
 ghost use Rattle.l3_wav.specs.Samples.{coming, unread};
@@ -69,7 +70,7 @@ fn add_samples(
 
 /// Reads all samples of the data whose head this is.
 ///
-/// At Ok the source was read to the end of its data. A fault of reading comes only where the source's faults rose.
+/// At Ok the source was read to the end of its data. Where a read failed no other follows.
 pub fn read_all<S: Source>(alloc: Global, head: &WavHead, source: &mut S) -> Result<Pcm, PcmFault>
     ensures left { IfOk result (λ pcm. IfSome (S.left source.old) (λ bytes.
         pcm.left.items ≡ left_of head.now.channels (coming (unread head.now.channels head.now.data_bytes) bytes))) }
@@ -80,7 +81,12 @@ pub fn read_all<S: Source>(alloc: Global, head: &WavHead, source: &mut S) -> Res
     ensures few { IfOk result (λ pcm. length pcm.left.items ≤ 2147483647) }
     ensures shape { IfOk result (λ pcm. length pcm.right.items ≡ right_count head.now.channels (length pcm.left.items)) }
     ensures later { S.faults source.old ≤ S.faults source.new }
+    ensures served { OnOk result (S.faults source.new ≡ S.faults source.old) }
     ensures cause { IfErr result (PcmCause (S.faults source.old) (S.faults source.new)) }
+
+    // At either fault no byte after the data is gone.
+    ensures some { OnErr result ((bytes : List ℕ) × (length bytes ≤ head.now.data_bytes)
+        × Consumes (S.left source.old) (S.left source.new) bytes) }
 {
     let mut samples = Samples::new(head);
     let mut block = empty_block();

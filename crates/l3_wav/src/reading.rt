@@ -1,18 +1,11 @@
-ghost use Rattle.std.specs.Prelude.{◌≡◌, ◌≤◌, List, ℕ, Err, IfSome, IfErr, OnOk, OnErr, length, take};
+ghost use Rattle.std.specs.Prelude.{◌≡◌, ◌≤◌, List, ℕ, IfSome, IfErr, OnOk, OnErr, length, take};
 ghost use Rattle.std.specs.Io.KnownBytes.{Consumes};
-ghost use Rattle.l3_io.specs.Causes.{Rose};
 ghost use Rattle.l3_wav.specs.Steps.{HasPassed, EndsWithin};
+ghost use Rattle.l3_wav.specs.Wav.{FaultCause};
 
 use crate::WavFault;
+use crate::block::{BLOCK, empty_block};
 use l3_io::{Source, read_full};
-
-// Bytes that are passed over at a time.
-const BLOCK: usize = 4096;
-
-// A block before it is read.
-fn empty_block() -> [u8; BLOCK] {
-    [0; BLOCK]
-}
 
 /// Fills the buffer with the next bytes of a head.
 pub fn fill<S: Source>(source: &mut S, buf: &mut [u8]) -> Result<(), WavFault>
@@ -21,7 +14,8 @@ pub fn fill<S: Source>(source: &mut S, buf: &mut [u8]) -> Result<(), WavFault>
     ensures ends { IfErr result (λ fault. IfSome (S.left source.old) (λ bytes. EndsWithin (length buf.new) fault bytes (S.left source.new))) }
     ensures some { OnErr result ((bytes : List ℕ) × (length bytes ≤ length buf.new) × Consumes (S.left source.old) (S.left source.new) bytes) }
     ensures later { S.faults source.old ≤ S.faults source.new }
-    ensures read { result ≡ Err WavFault.Read → Rose (S.faults source.old) (S.faults source.new) }
+    ensures served { OnOk result (S.faults source.new ≡ S.faults source.old) }
+    ensures cause { IfErr result (FaultCause (S.faults source.old) (S.faults source.new)) }
 {
     match read_full(source, buf) {
         Ok(count) if count == buf.len() => Ok(()),
@@ -36,7 +30,8 @@ pub fn skip<S: Source>(source: &mut S, count: usize) -> Result<(), WavFault>
     ensures ends { IfErr result (λ fault. IfSome (S.left source.old) (λ bytes. EndsWithin count fault bytes (S.left source.new))) }
     ensures some { OnErr result ((bytes : List ℕ) × (length bytes ≤ count) × Consumes (S.left source.old) (S.left source.new) bytes) }
     ensures later { S.faults source.old ≤ S.faults source.new }
-    ensures read { result ≡ Err WavFault.Read → Rose (S.faults source.old) (S.faults source.new) }
+    ensures served { OnOk result (S.faults source.new ≡ S.faults source.old) }
+    ensures cause { IfErr result (FaultCause (S.faults source.old) (S.faults source.new)) }
 {
     let mut block = empty_block();
     let mut done = 0;

@@ -6,6 +6,7 @@ ghost use Rattle.l3_io.specs.Causes.{HasCause};
 ghost use Rattle.l3_wav.specs.Samples.{value_of, values_of, unread, whole_bytes, samples_after, ReadsValues, ReadsBlock};
 
 use crate::WavHead;
+use crate::block::{BLOCK, empty_block};
 use l3_base::{Channels, ReadFault};
 use l3_io::{Source, read_full};
 use std::marker::Model;
@@ -78,14 +79,6 @@ impl Samples {
     {
         self.failed
     }
-}
-
-// Bytes that are read at a time: whole samples of one channel and of two.
-const BLOCK: usize = 4096;
-
-// A block before it is read.
-fn empty_block() -> [u8; BLOCK] {
-    [0; BLOCK]
 }
 
 // The value of two bytes.

@@ -5,9 +5,9 @@ use Rattle.l3_io.specs.Causes.{Rose}
 use Rattle.l3_wav.specs.declared.fault.WavFault.TheVariants.{NotRiff, Read}
 use Rattle.l3_wav.specs.Wav.{file_of, is_riff, head_limit}
 use Rattle.l3_wav.proofs.SampleLemmas.{gone_in_two}
-use Rattle.l3_wav.proofs.BodyLemmas.{gone-passed}
+use Rattle.l3_wav.proofs.BodyLemmas.{gone-passed, FaultCause-as, FaultCause-rose}
 use Rattle.l3_wav.proofs.ChunkLemmas.{fault_told}
-use Rattle.l3_wav.proofs.OpenLemmas.{riff_ends, not_riff, riff_chunks, own_fault, open_told, open_rest, open_refused, rose_as}
+use Rattle.l3_wav.proofs.OpenLemmas.{riff_ends, not_riff, riff_chunks, own_fault, open_told, open_rest, open_refused, open_lost}
 use Rattle.l3_wav.proofs.head.open.Goals as goal
 
 pub returns-in_err-fill-clause-told : goal.returns-in_err-fill-clause-told
@@ -18,7 +18,7 @@ returns-in_err-fill-clause-told g c =
     open_told (left c.args.source.now) (left c.fill.new.source) _ _ c.from_residual.result
     (fault_told (left c.args.source.now) (left c.fill.new.source) c.from_residual.result c.in_err-fill.field-0.0 (λ bytes. file_of bytes) is
     (riff_ends (left c.args.source.now) (left c.fill.new.source) c.in_err-fill.field-0.0 (rw long at c.in_err-fill.ensures.ends)))
-    (rose_as c.fill.result c.from_residual.result c.in_err-fill.field-0.0 _ c.in_err-fill.was is c.fill.ensures.read)
+    (FaultCause-rose _ _ c.from_residual.result (FaultCause-as _ _ c.from_residual.result c.in_err-fill.field-0.0 is c.in_err-fill.ensures.cause))
 
 pub returns-then-not-is_riff-clause-told : goal.returns-then-not-is_riff-clause-told
 returns-then-not-is_riff-clause-told g c =
@@ -33,7 +33,8 @@ returns-clause-told g c =
     let left = g.S.Source.left in
     let long : length c.fill.new.buf ≡ 12 = search rules in
     let riff : is_riff c.fill.new.buf ≡ true = search rules in
-    let rose : c.read_chunks.result ≡ Err Read → Rose (g.S.Source.faults c.args.source.now) (g.S.Source.faults c.read_chunks.new.source) = search rules in
+    let rose : c.read_chunks.result ≡ Err Read → Rose (g.S.Source.faults c.args.source.now) (g.S.Source.faults c.read_chunks.new.source) =
+    FaultCause-rose _ _ c.read_chunks.result (rw c.in_ok-fill.ensures.served at c.read_chunks.ensures.cause) in
     open_told (left c.args.source.now) (left c.read_chunks.new.source) _ _ c.read_chunks.result
     (riff_chunks (left c.args.source.now) (left c.fill.new.source) (left c.read_chunks.new.source) c.fill.new.buf c.read_chunks.result long c.in_ok-fill.ensures.front c.in_ok-fill.ensures.passed riff c.read_chunks.ensures.told) rose
 
@@ -76,4 +77,21 @@ returns-clause-refused g c =
     let long : length c.fill.new.buf ≡ 12 = search rules in
     let riff : is_riff c.fill.new.buf ≡ true = search rules in
     open_refused (left c.args.source.now) (left c.read_chunks.new.source) c.read_chunks.result
+    (riff_chunks (left c.args.source.now) (left c.fill.new.source) (left c.read_chunks.new.source) c.fill.new.buf c.read_chunks.result long c.in_ok-fill.ensures.front c.in_ok-fill.ensures.passed riff c.read_chunks.ensures.told)
+
+pub returns-in_err-fill-clause-lost : goal.returns-in_err-fill-clause-lost
+returns-in_err-fill-clause-lost g c = λ _.
+    let left = g.S.Source.left in
+    let long : length c.fill.new.buf ≡ 12 = search rules in
+    let is : c.from_residual.result ≡ Err c.in_err-fill.field-0.0 = search rules in
+    open_lost (left c.args.source.now) (left c.fill.new.source) c.from_residual.result
+    (fault_told (left c.args.source.now) (left c.fill.new.source) c.from_residual.result c.in_err-fill.field-0.0 (λ bytes. file_of bytes) is
+    (riff_ends (left c.args.source.now) (left c.fill.new.source) c.in_err-fill.field-0.0 (rw long at c.in_err-fill.ensures.ends)))
+
+pub returns-clause-lost : goal.returns-clause-lost
+returns-clause-lost g c = λ _.
+    let left = g.S.Source.left in
+    let long : length c.fill.new.buf ≡ 12 = search rules in
+    let riff : is_riff c.fill.new.buf ≡ true = search rules in
+    open_lost (left c.args.source.now) (left c.read_chunks.new.source) c.read_chunks.result
     (riff_chunks (left c.args.source.now) (left c.fill.new.source) (left c.read_chunks.new.source) c.fill.new.buf c.read_chunks.result long c.in_ok-fill.ensures.front c.in_ok-fill.ensures.passed riff c.read_chunks.ensures.told)

@@ -11,7 +11,7 @@ loop-head-init g c = record {
   low = omega arith;
   within = omega arith;
   at = IsAt-first (g.S.Source.left c.args.source.now);
-  later = search rules;
+  steady = search rules;
 }
 
 pub returns-in_err-fill-clause-told : goal.returns-in_err-fill-clause-told
@@ -95,5 +95,5 @@ loop-head-preserved g c =
       low = omega arith;
       within = omega arith;
       at = rw (← c.padded.ensures) at next;
-      later = search rules;
+      steady = search rules;
     }

@@ -1,4 +1,4 @@
-use Rattle.std.proofs.Common.{◌-◌, ◌≤◌}
+use Rattle.std.proofs.Common.{◌≡◌, ◌-◌, ◌≤◌}
 use Rattle.std.specs.Prelude.{IfSome}
 use Rattle.l3_wav.specs.Wav.{head_limit}
 use Rattle.l3_wav.proofs.ChunkLemmas.{IsAt}
@@ -9,7 +9,7 @@ invariant-loop-head g l = record {
   low : 12 ≤ l.read;
   within : l.read ≤ head_limit;
   at : IfSome (g.S.Source.left l.fn.source) (λ bytes. IsAt bytes l.format l.read (g.S.Source.left l.source));
-  later : g.S.Source.faults l.fn.source ≤ g.S.Source.faults l.source;
+  steady : g.S.Source.faults l.source ≡ g.S.Source.faults l.fn.source;
 }
 
 abbrev pub decreases-loop-head : goal.decreases-loop-head

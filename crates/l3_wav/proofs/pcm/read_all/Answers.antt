@@ -1,8 +1,9 @@
-use Rattle.std.proofs.Common.{rules, ◌≡◌, ◌<◌, ◌^◌, ◌++◌, take, arith}
+use Rattle.std.proofs.Common.{rules, ◌≡◌, ◌<◌, ◌^◌, ◌++◌, length, take, arith}
+use Rattle.std.proofs.lemmas.Option.{IfSome_then}
 use Rattle.l3_wav.specs.Pcm.{left_of, right_of}
 use Rattle.l3_wav.specs.Samples.{unread}
 use Rattle.l3_wav.proofs.RangeLemmas.{added_fit, left_of-fit, right_of-fit}
-use Rattle.l3_wav.proofs.PcmLemmas.{GivesAll, turn_state, turn_more, turn_last}
+use Rattle.l3_wav.proofs.PcmLemmas.{GivesAll, turn_state, turn_more, turn_last, turn_gone, gone_further, gone_most, gone_at_fault, gone_values}
 use Rattle.l3_wav.proofs.pcm.read_all.Goals as goal
 
 -- what was read before, and the turn's block
@@ -17,7 +18,10 @@ loop-there-preserved g c =
     record {
       state = turn_state c.args.head.now.channels first c.loop-there.samples c.next.new.self c.in-Ok.there c.next.new.out c.loop-there.left.items c.loop-there.right.items _ _
           (left c.args.source.now) (left c.loop-there.source) (left c.next.new.source) inv.state inv.content read.content read.state read.bound read.declared read.samples lefts rights;
-      later = search rules;
+      steady = search rules;
+      some = gone_further (left c.args.source.now) (left c.loop-there.source) (left c.next.new.source) c.args.head.now.data_bytes c.loop-there.samples.remaining c.next.new.self.remaining inv.some
+          (turn_gone c.args.head.now.channels first c.loop-there.samples c.next.new.self c.in-Ok.there c.next.new.out c.loop-there.left.items c.loop-there.right.items _ _
+          (left c.args.source.now) (left c.loop-there.source) (left c.next.new.source) inv.state inv.content read.content read.state read.bound read.declared read.samples lefts rights);
       lefts_fit = added_fit c.loop-there.left.items _ _ lefts inv.lefts_fit (left_of-fit c.args.head.now.channels _ read.range);
       rights_fit = added_fit c.loop-there.right.items _ _ rights inv.rights_fit (right_of-fit c.args.head.now.channels _ read.range);
       content = turn_more c.args.head.now.channels first c.loop-there.samples c.next.new.self c.in-Ok.there c.next.new.out c.loop-there.left.items c.loop-there.right.items _ _
@@ -63,3 +67,17 @@ returns-then-there-lt2048-clause-few g c =
 
 pub returns-then-there-lt2048-clause-shape : goal.returns-then-there-lt2048-clause-shape
 returns-then-there-lt2048-clause-shape g c = (gives g c).shape
+
+pub returns-in_default-clause-some : goal.returns-in_default-clause-some
+returns-in_default-clause-some g c =
+    let left = g.S.Source.left in
+    gone_at_fault (left c.args.source.now) (left c.loop-there.source) (left c.next.new.source) c.args.head.now.data_bytes c.loop-there.samples.remaining c.loop-there.invariant.some c.in_default.ensures.some
+
+pub returns-then-is_err-clause-some : goal.returns-then-is_err-clause-some
+returns-then-is_err-clause-some g c =
+    let left = g.S.Source.left in
+    let read = c.in-Ok.ensures in
+    let gone = gone_values c.loop-there.samples c.in-Ok.there (length c.next.new.out) (left c.loop-there.source) (left c.next.new.source) read.declared
+    (IfSome_then (left c.loop-there.source) read.content (λ l values. values.rest)) in
+    gone_most (left c.args.source.now) (left c.next.new.source) c.args.head.now.data_bytes _
+    (gone_further (left c.args.source.now) (left c.loop-there.source) (left c.next.new.source) c.args.head.now.data_bytes c.loop-there.samples.remaining _ c.loop-there.invariant.some gone)

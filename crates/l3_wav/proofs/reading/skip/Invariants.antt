@@ -1,4 +1,4 @@
-use Rattle.std.proofs.Common.{◌-◌, ◌≤◌}
+use Rattle.std.proofs.Common.{◌≡◌, ◌-◌, ◌≤◌}
 use Rattle.std.specs.Prelude.{IfSome}
 use Rattle.l3_wav.specs.Steps.{HasPassed}
 use Rattle.l3_wav.proofs.reading.skip.Given as goal
@@ -7,7 +7,7 @@ abbrev pub invariant-loop-done : goal.invariant-loop-done
 invariant-loop-done g l = record {
   within : l.done ≤ l.count;
   passed : IfSome (g.S.Source.left l.fn.source) (λ bytes. HasPassed l.done bytes (g.S.Source.left l.source));
-  later : g.S.Source.faults l.fn.source ≤ g.S.Source.faults l.source;
+  steady : g.S.Source.faults l.source ≡ g.S.Source.faults l.fn.source;
 }
 
 abbrev pub decreases-loop-done : goal.decreases-loop-done

@@ -41,7 +41,7 @@ loop-count-preserved g c =
           c.loop-count.out c.read_block.new.out (left c.loop-count.source) (left c.read_block.new.source) has c.in_ok-block.ensures.content (search rules) (search rules) is);
       range = block_fits c.loop-count.count c.in_ok-block.block.count _ c.loop-count.out c.read_block.new.out (search rules) (search rules) c.loop-count.invariant.range c.in_ok-block.ensures.range;
       some = gone_in_two (left c.args.source.now) (left c.loop-count.source) (left c.read_block.new.source) (2 * c.loop-count.count) c.min-want.result _ c.loop-count.invariant.some c.read_block.ensures.some (omega (arith, is));
-      later = search rules;
+      steady = search rules;
     }
 
 pub returns-clause-content : goal.returns-clause-content

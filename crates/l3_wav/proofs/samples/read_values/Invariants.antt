@@ -13,7 +13,7 @@ invariant-loop-count g l = record {
   content : IfSome (g.S.Source.left l.fn.source) (λ left. HasRead l.channels l.declared left l.count l.out (g.S.Source.left l.source));
   range : All (FitsSigned w16) (take l.count l.out);
   some : (bytes : List ℕ) × (length bytes ≤ 2 * l.count) × Consumes (g.S.Source.left l.fn.source) (g.S.Source.left l.source) bytes;
-  later : g.S.Source.faults l.fn.source ≤ g.S.Source.faults l.source;
+  steady : g.S.Source.faults l.source ≡ g.S.Source.faults l.fn.source;
 }
 
 abbrev pub decreases-loop-count : goal.decreases-loop-count
