@@ -14,10 +14,11 @@ use Rattle.l3_base.specs.declared.rate.Channels.TheVariants.{Mono, Stereo}
 use Rattle.l3_stream.specs.declared.unit.Unit.{Unit}
 use Rattle.l3_stream.specs.declared.unit.ChosenFrame.{ChosenFrame}
 use Rattle.l3_stream.specs.Units.{IsCodedUnit, pairs_code, PairsHold, pairs_of, quads_code, QuadsHold, quads_of, table_at, unit_bits}
-use Rattle.l3_stream.specs.Frames.{blank, IsCoded, units_of, units_bits, code_bits}
+use Rattle.l3_stream.specs.Frames.{IsCoded, units_of, units_bits, code_bits}
 use Rattle.l3_stream.specs.Coded.{IsCodedGranule}
 use Rattle.l3_stream.proofs.Lines.{line_at, quad_from, pairs_code-next, PairsHold-next, quads_code-next, QuadsHold-next}
-use Rattle.l3_stream.proofs.Shapes.{frame_coded}
+use Rattle.l3_stream.proofs.Shapes.{frame_coded, two_of}
+use Rattle.l3_stream.proofs.WholeFrame.{code_bits-is}
 use Rattle.l3_frames.specs.Laying.{granule_bits, laid_over}
 use Rattle.l3_frames.proofs.TapeLemmas.{laid_over-then}
 
@@ -168,11 +169,7 @@ pub unit_bits-is : (st : Settings) (u : Unit) → unit_bits st u ≡ pairs_code 
 unfolding unit_bits
 unit_bits-is st u = refl
 
-blank_length : blank.length ≡ 0
-unfolding blank
-blank_length = refl
-
--- the units of a granule that have codes, and their lengths
+-- the units of a granule that have codes
 pub record HasOne (st : Settings) (g : List Unit) (d : Unit) : Type 0 where
   pub coded : IsCodedUnit st (get_or g 0 d)
   pub bits : granule_bits st Mono g ≡ unit_bits st (get_or g 0 d)
@@ -193,32 +190,6 @@ has_two st [] d h = absurd h
 has_two st (a ∷ []) d h = absurd h
 has_two st (a ∷ b ∷ []) d h = record { first = h.0; second = h.1; bits = refl }
 has_two st (a ∷ b ∷ e ∷ g) d h = absurd h
-
-pub record HasLength (st : Settings) (c : Channels) (g : List Unit) (d : Unit) : Type 0 where
-  pub value : (get_or g 0 d).length + (get_or g 1 d).length ≡ length (granule_bits st c g)
-  pub limit : (get_or g 0 d).length + (get_or g 1 d).length ≤ 8190
-
-pub has_length : (st : Settings) (c : Channels) (g : List Unit) (d : Unit) → IsCodedGranule st c g → HasLength st c g d
-has_length st Mono [] d h = absurd h
-has_length st Mono (a ∷ []) d h = absurd h
-has_length st Mono (a ∷ b ∷ []) d h =
-    let one : IsCodedUnit st a = h.0 in
-    let bits = one.bits in
-    let small = one.fields.size in
-    let none : b.length ≡ 0 = ap (λ (u : Unit). u.length) h.1 ∙ blank_length in
-    record { value = omega arith; limit = omega arith }
-has_length st Mono (a ∷ b ∷ e ∷ g) d h = absurd h
-has_length st Stereo [] d h = absurd h
-has_length st Stereo (a ∷ []) d h = absurd h
-has_length st Stereo (a ∷ b ∷ []) d h =
-    let one : IsCodedUnit st a = h.0 in
-    let other : IsCodedUnit st b = h.1 in
-    let bits = one.bits in
-    let small = one.fields.size in
-    let bits' = other.bits in
-    let small' = other.fields.size in
-    record { value = omega (arith, length-append (unit_bits st a) (unit_bits st b)); limit = omega arith }
-has_length st Stereo (a ∷ b ∷ e ∷ g) d h = absurd h
 
 two_mono : (st : Settings) (a b p q : Unit) → units_bits st (units_of Mono ((a ∷ b ∷ []) ∷ (p ∷ q ∷ []) ∷ [])) ≡ unit_bits st a ++ unit_bits st p
 unfolding units_of
@@ -245,16 +216,6 @@ granules_bits st Stereo (a ∷ b ∷ e ∷ g) h first second = absurd first
 granules_bits st Stereo (a ∷ b ∷ []) [] first second = absurd second
 granules_bits st Stereo (a ∷ b ∷ []) (p ∷ []) first second = absurd second
 granules_bits st Stereo (a ∷ b ∷ []) (p ∷ q ∷ e ∷ h) first second = absurd second
-
-two_of : (gs : List (List Unit)) → length gs ≡ 2 → gs ≡ get_or gs 0 [] ∷ get_or gs 1 [] ∷ []
-two_of [] e = absurd (omega arith)
-two_of (g ∷ []) e = absurd (omega arith)
-two_of (g ∷ h ∷ []) e = refl
-two_of (g ∷ h ∷ i ∷ gs) e = absurd (omega arith)
-
-code_bits-is : (st : Settings) (f : ChosenFrame) → code_bits st f ≡ units_bits st (units_of st.channels f.units)
-unfolding code_bits
-code_bits-is st f = refl
 
 -- the codes of a frame, by its granules
 pub frame_bits : (st : Settings) (f : ChosenFrame) → length f.units ≡ 2 → IsCoded st f →

@@ -3,9 +3,8 @@ use Rattle.std.proofs.Common.{◌≡◌, ℕ, zero, suc, ◌+◌, ◌-◌, ◌*�
 use Rattle.std.specs.Prelude.{All}
 use Rattle.std.proofs.lemmas.List.{drop-drop, drop-replicate, drop-append-le, take-append-drop, take-replicate, take_at, drop_at, length-take-le, length-drop, replicate-append-replicate}
 use Rattle.std.proofs.lemmas.List.Elements.{All-take}
-use Rattle.std.proofs.lemmas.Grind.{flat_map-append}
 use Rattle.std.proofs.Math.Seq.{take-add}
-use Rattle.l3_bits.specs.Bits.{digits, bits_of, packed}
+use Rattle.l3_bits.specs.Bits.{bits_of, packed}
 use Rattle.l3_bits.proofs.Places.{length-bits_of}
 use Rattle.l3_base.specs.declared.settings.Settings.{Settings}
 use Rattle.l3_base.specs.Lengths.{slots_before}

@@ -7,7 +7,6 @@ ghost use Rattle.l3_io.specs.Taken.{Writes};
 ghost use Rattle.l3_stream.specs.Tape.{FitsAt, joined};
 ghost use Rattle.l3_frames.specs.Pending.{AreSettled, Gives, GivesPart, IsKept, IsNoted, IsShort, writing_of};
 
-use crate::codes::code_length;
 use crate::head::Head;
 use crate::slots::Slots;
 use arrayvec::ArrayVec;
@@ -64,7 +63,7 @@ pub(crate) fn note(pending: &mut Pending, frame: &ChosenFrame)
         .push(Head::of(&pending.settings, pending.frames, frame));
     pending.slots.append(slot as usize);
     pending.slots.lay(&pending.settings, frame, at);
-    pending.end = 8 * (pending.before - begin) + code_length(&pending.settings, frame);
+    pending.end = 8 * (pending.before - begin) + frame.main_data_length();
     pending.before += u64::from(slot);
     pending.frames += 1;
 }

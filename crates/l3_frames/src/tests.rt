@@ -3,7 +3,7 @@ ghost use Rattle.std.specs.Prelude.{◌≡◌, ◌+◌, ◌≤◌, length};
 use crate::FrameWriter;
 use l3_base::{Channels, Rate, SampleRate, Settings, WriteFault};
 use l3_io::MemSink;
-use l3_stream::{ChosenFrame, QuadTable, Unit};
+use l3_stream::{ChosenFrame, Unit};
 use std::process::Abort;
 use std::test::Fail;
 
@@ -27,17 +27,7 @@ const HIGHEST: Settings = Settings {
 
 // A unit of one pair of table 1, or of none where its first line is 0.
 fn unit_of(first: i16) -> Unit {
-    let mut unit = Unit {
-        length: 0,
-        big: 0,
-        quads: 0,
-        gain: 0,
-        region0: 0,
-        region1: 0,
-        tables: [0; 3],
-        quad: QuadTable::A,
-        lines: no_lines(),
-    };
+    let mut unit = Unit::blank();
     if first != 0 {
         unit.length = 3;
         unit.big = 1;
@@ -47,12 +37,8 @@ fn unit_of(first: i16) -> Unit {
     unit
 }
 
-fn no_lines() -> [i16; 576] {
-    [0; 576]
-}
-
 fn frame_of(begin: u16, first: i16) -> ChosenFrame {
-    let none = unit_of(0);
+    let none = Unit::blank();
     ChosenFrame {
         begin,
         units: [[unit_of(first), none], [none; 2]],

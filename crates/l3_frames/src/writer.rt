@@ -7,7 +7,6 @@ ghost use Rattle.l3_stream.specs.Tape.{FitsAt, end_of, stream_of};
 ghost use Rattle.l3_frames.specs.Writing.{owed};
 ghost use Rattle.l3_frames.specs.Pending.{IsKept, writing_of};
 
-use crate::codes::code_length;
 use crate::pending::{BEGIN_LIMIT, Pending, give, give_settled, note, nothing_pending};
 use l3_base::{Settings, WriteFault};
 use l3_io::Sink;
@@ -116,7 +115,7 @@ fn fits_behind(pending: &Pending, frame: &ChosenFrame) -> bool
     let start = 8 * (pending.before - begin);
     let slot = u64::from(pending.settings.slot_bytes(pending.frames));
     let before = pending.end;
-    before <= start && start + code_length(&pending.settings, frame) <= 8 * (pending.before + slot)
+    before <= start && start + frame.main_data_length() <= 8 * (pending.before + slot)
 }
 
 // Gives all frames that are pending.

@@ -19,7 +19,7 @@ use Rattle.l3_bits.proofs.Places.{length-bits_of}
 use Rattle.l3_bits.proofs.Bytes.{number_of-digits}
 use Rattle.l3_stream.specs.Fields.{FieldsFit}
 use Rattle.l3_stream.specs.Header.{header_at, header_from, rate_from, hertz_from}
-use Rattle.l3_stream.proofs.Header.{headers_are_there, headers_are_found}
+use Rattle.l3_stream.proofs.Header.{rate_is, hertz_is, headers_are_there, headers_are_found}
 use Rattle.l3_side.specs.Numbers.{HasHeaderFields}
 use Rattle.l3_side.proofs.Numbers.{number_in, number_in-digits, number_of-spelled}
 
@@ -146,27 +146,6 @@ fields_there number st padded is =
     }
 
 -- ---- settings are those of their fields
-
-rate_is : (r : Rate) → rate_from (index_of r) ≡ r
-rate_is K32 = refl
-rate_is K40 = refl
-rate_is K48 = refl
-rate_is K56 = refl
-rate_is K64 = refl
-rate_is K80 = refl
-rate_is K96 = refl
-rate_is K112 = refl
-rate_is K128 = refl
-rate_is K160 = refl
-rate_is K192 = refl
-rate_is K224 = refl
-rate_is K256 = refl
-rate_is K320 = refl
-
-hertz_is : (h : SampleRate) → hertz_from (hertz_index_of h) ≡ h
-hertz_is Hz44100 = refl
-hertz_is Hz48000 = refl
-hertz_is Hz32000 = refl
 
 rate_by : (r s : Rate) → index_of r ≡ index_of s → r ≡ s
 rate_by r s e = sym (rate_is r) ∙ (ap rate_from e ∙ rate_is s)

@@ -11,7 +11,7 @@ ghost use Rattle.l3_stream.specs.Side.{unit_widths, side_bytes, IsSide};
 ghost use Rattle.l3_stream.specs.SideReading.{begin_at, unit_side_of, units_at, PassesRule, SidePassesRule, side_at};
 ghost use Rattle.l3_side.specs.Reading.{side_in, IsBare, IsClearFront};
 
-use crate::unit_fields::{blank_unit, passes, set_fields};
+use crate::unit_fields::{passes, set_fields};
 use l3_base::{Channels, Settings};
 use l3_bits::take_bits;
 use l3_stream::{ChosenFrame, Unit};
@@ -28,7 +28,7 @@ pub fn read_side(settings: &Settings, bytes: &[u8]) -> Option<ChosenFrame>
     ensures bare { IfSome result (λ f. AllByRecursion IsBare (units_of settings.now.channels f.units)) }
     ensures none { IfNone result ((begin : ℕ) (us : List Unit) → IsSide settings.now.channels (bits_of bytes.now) begin us → ⊥) }
 {
-    let unit = blank_unit();
+    let unit = Unit::blank();
     let mut frame = ChosenFrame {
         begin: 0,
         units: [[unit; 2]; 2],

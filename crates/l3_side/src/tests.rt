@@ -1,7 +1,6 @@
 ghost use Rattle.std.specs.Prelude.{◌≡◌, ◌≤◌, ◌+◌, length};
 ghost use Rattle.l3_stream.specs.Side.{side_bytes};
 
-use crate::unit_fields::blank_unit;
 use crate::{read_header, read_side, write_header, write_side};
 use l3_base::{Channels, Rate, SampleRate, Settings};
 use l3_bits::put_bits;
@@ -75,7 +74,7 @@ fn refused_headers(rt: HostRuntime) {
 
 // A unit of zero lines. `counts` are its bits, pairs and quadruples, `regions` its region counts.
 fn unit_of(counts: [u16; 3], gain: u8, tables: [u8; 3], regions: [u8; 2], quad: QuadTable) -> Unit {
-    let mut unit = blank_unit();
+    let mut unit = Unit::blank();
     unit.length = counts[0];
     unit.big = counts[1];
     unit.quads = counts[2];
@@ -130,7 +129,7 @@ fn a_mono_frame_both_ways(rt: HostRuntime) {
     let second = unit_of([10, 5, 0], 210, [11, 6, 31], [3, 5], QuadTable::A);
     let frame = ChosenFrame {
         begin: 257,
-        units: [[first, blank_unit()], [second, blank_unit()]],
+        units: [[first, Unit::blank()], [second, Unit::blank()]],
     };
     let bytes = [
         0x80, 0x80, 0x00, 0x24, 0x0B, 0x2C, 0x03, 0xAB, 0x02, 0x88, 0x05, 0x01, 0x74, 0x80, 0xB3,

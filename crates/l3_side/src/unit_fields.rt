@@ -67,23 +67,6 @@ pub(crate) fn set_fields(unit: &mut Unit, number: u64)
     unit.quad = quad_table(field(number, 0, 1));
 }
 
-// A unit that is zero in every field, with table A.
-pub(crate) fn blank_unit() -> Unit
-    ensures { result ≡ blank }
-{
-    Unit {
-        length: 0,
-        big: 0,
-        quads: 0,
-        gain: 0,
-        region0: 0,
-        region1: 0,
-        tables: [0; 3],
-        quad: QuadTable::A,
-        lines: [0; 576],
-    }
-}
-
 // Whether scalefac_compress, window_switching_flag, preflag and scalefac_scale are 0.
 fn has_zero_fields(number: u64) -> bool
     ensures yes { result ≡ true → HasZeros (fields_in unit_widths number) }

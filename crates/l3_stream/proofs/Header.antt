@@ -27,7 +27,8 @@ pub header-length : (st : Settings) (n : ℕ) → length (header_at st n) ≡ 8 
 unfolding header_at
 header-length st n = refl
 
-rate_is : (r : Rate) → rate_from (index_of r) ≡ r
+-- a bitrate_index gives its rate back
+pub rate_is : (r : Rate) → rate_from (index_of r) ≡ r
 rate_is K32 = refl
 rate_is K40 = refl
 rate_is K48 = refl
@@ -63,7 +64,8 @@ is_rate K224 = record { index = omega arith; kbits = omega arith }
 is_rate K256 = record { index = omega arith; kbits = omega arith }
 is_rate K320 = record { index = omega arith; kbits = omega arith }
 
-hertz_is : (h : SampleRate) → hertz_from (hertz_index_of h) ≡ h
+-- a sampling_frequency gives its rate back
+pub hertz_is : (h : SampleRate) → hertz_from (hertz_index_of h) ≡ h
 hertz_is Hz44100 = refl
 hertz_is Hz48000 = refl
 hertz_is Hz32000 = refl

@@ -11,6 +11,7 @@ pub mod LineReading
 pub mod UnitReading
 pub mod FrameReading
 pub mod WholeFrame
+pub mod Following
 pub mod FramesReading
 pub mod StreamReading
 pub mod Readings

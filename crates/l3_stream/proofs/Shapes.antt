@@ -134,7 +134,8 @@ granules_coded st Stereo (a ∷ b ∷ g) (p ∷ q ∷ h) all =
       second = subst (λ (l : List Unit). IsCodedGranule st Stereo (p ∷ q ∷ l)) (sym other) (all.units.1.1.0, all.units.1.1.1.0);
     }
 
-two_of : (gs : List (List Unit)) → length gs ≡ 2 → gs ≡ get_or gs 0 [] ∷ get_or gs 1 [] ∷ []
+-- two granules one by one
+pub two_of : (gs : List (List Unit)) → length gs ≡ 2 → gs ≡ get_or gs 0 [] ∷ get_or gs 1 [] ∷ []
 two_of [] e = absurd (omega arith)
 two_of (g ∷ []) e = absurd (omega arith)
 two_of (g ∷ h ∷ []) e = refl

@@ -1,5 +1,6 @@
 -- One frame: what is read is spelled so, and what is spelled so is read.
 use Rattle.std.proofs.Common.{◌≡◌, ℕ, suc, ◌+◌, ◌-◌, ◌*◌, ◌^◌, ◌<◌, ◌≤◌, Bool, false, List, [], ◌∷◌, ◌++◌, length, replicate, take, drop, map, Ok, refl, sym, ap, subst, ◌∙◌, arith, append_assoc, length-append}
+use Rattle.std.specs.Prelude.{sum_by}
 use Rattle.std.specs.List.{flat_map, AllByRecursion}
 use Rattle.std.proofs.lemmas.List.{take_at, drop_at, take-append-drop, length-take-le, length-drop, drop-drop}
 use Rattle.std.proofs.lemmas.List.Elements.{All-take, All-drop}
@@ -13,7 +14,7 @@ use Rattle.l3_base.specs.Lengths.{frame_bytes_of, slot_bytes_of, slots_before}
 use Rattle.l3_stream.specs.declared.unit.Unit.{Unit}
 use Rattle.l3_stream.specs.declared.unit.ChosenFrame.{ChosenFrame}
 use Rattle.l3_stream.specs.Units.{lengths, IsCodedUnit}
-use Rattle.l3_stream.specs.Frames.{units_of, placed, units_number, units_bits, code_bits, IsCoded}
+use Rattle.l3_stream.specs.Frames.{blank, units_of, placed, units_number, units_bits, code_bits, main_data_length, IsCoded}
 use Rattle.l3_stream.specs.Side.{unit_side, side_bytes}
 use Rattle.l3_stream.specs.SideReading.{stripped}
 use Rattle.l3_stream.specs.Tape.{start_of, end_of, FitsAt, head_of}
@@ -40,7 +41,7 @@ units_of-placed Stereo (a ∷ b ∷ c ∷ []) e = absurd (omega arith)
 units_of-placed Stereo (a ∷ b ∷ c ∷ d ∷ []) e = refl
 units_of-placed Stereo (a ∷ b ∷ c ∷ d ∷ x ∷ us) e = absurd (omega arith)
 
-code_bits-is : (st : Settings) (f : ChosenFrame) → code_bits st f ≡ units_bits st (units_of st.channels f.units)
+pub code_bits-is : (st : Settings) (f : ChosenFrame) → code_bits st f ≡ units_bits st (units_of st.channels f.units)
 unfolding code_bits
 code_bits-is st f = refl
 
@@ -49,6 +50,29 @@ pub code_bits-length : (st : Settings) (f : ChosenFrame) → IsCoded st f → le
 code_bits-length st f coded =
     let us = units_of st.channels f.units in
     ap length (code_bits-is st f) ∙ (sym (lengths-bits st us coded.units) ∙ lengths-stripped us)
+
+-- units by granule and channel are as long as they are in a row
+lengths-placed : (c : Channels) (us : List Unit) → length us ≡ units_number c → sum_by lengths (placed c us) ≡ lengths us
+unfolding placed blank
+lengths-placed Mono (a ∷ b ∷ []) number = omega arith
+lengths-placed Stereo (a ∷ b ∷ c ∷ d ∷ []) number = omega arith
+lengths-placed Mono [] number = cc
+lengths-placed Mono (a ∷ []) number = absurd (omega (arith, number))
+lengths-placed Mono (a ∷ b ∷ c ∷ us) number = absurd (omega (arith, number))
+lengths-placed Stereo [] number = cc
+lengths-placed Stereo (a ∷ []) number = absurd (omega (arith, number))
+lengths-placed Stereo (a ∷ b ∷ []) number = absurd (omega (arith, number))
+lengths-placed Stereo (a ∷ b ∷ c ∷ []) number = absurd (omega (arith, number))
+lengths-placed Stereo (a ∷ b ∷ c ∷ d ∷ e ∷ us) number = absurd (omega (arith, number))
+
+-- a frame's main data is as long as its units in the stream's order
+pub main_data_length-placed : (c : Channels) (f : ChosenFrame) → f.units ≡ placed c (units_of c f.units) → length (units_of c f.units) ≡ units_number c
+    → main_data_length f ≡ lengths (units_of c f.units)
+main_data_length-placed c f shape number = ap (sum_by lengths) shape ∙ lengths-placed c (units_of c f.units) number
+
+-- a coded frame has as many code bits as all its units' part2_3_length say
+pub code_bits-main_data : (st : Settings) (f : ChosenFrame) → IsCoded st f → length (code_bits st f) ≡ main_data_length f
+code_bits-main_data st f coded = code_bits-length st f coded ∙ sym (main_data_length-placed st.channels f coded.shape coded.number)
 
 pub code_bits-frame_of : (st : Settings) (begin : ℕ) (us : List Unit) → length us ≡ units_number st.channels → code_bits st (frame_of st.channels begin us) ≡ units_bits st us
 code_bits-frame_of st begin us number = code_bits-is st (frame_of st.channels begin us) ∙ ap (units_bits st) (units_of-placed st.channels us number)

@@ -1,5 +1,5 @@
 -- A frame: its units in order, its codes, and when it is coded (ISO/IEC 11172-3, 2.4, the main data).
-use Rattle.std.specs.Prelude.{◌≡◌, ℕ, Bool, List, [], ◌∷◌, length}
+use Rattle.std.specs.Prelude.{◌≡◌, ℕ, Bool, List, [], ◌∷◌, length, sum_by}
 use Rattle.std.specs.List.{flat_map, AllByRecursion}
 use Rattle.l3_base.specs.declared.settings.Settings.{Settings}
 use Rattle.l3_base.specs.declared.rate.Channels.{Channels}
@@ -7,7 +7,7 @@ use Rattle.l3_base.specs.declared.rate.Channels.TheVariants.{Mono, Stereo}
 use Rattle.l3_huff.specs.declared.quads.QuadTable.TheVariants.{A}
 use Rattle.l3_stream.specs.declared.unit.Unit.{Unit}
 use Rattle.l3_stream.specs.declared.unit.ChosenFrame.{ChosenFrame}
-use Rattle.l3_stream.specs.Units.{zero_lines, unit_bits, IsCodedUnit}
+use Rattle.l3_stream.specs.Units.{zero_lines, unit_bits, lengths, IsCodedUnit}
 
 -- the unit that is zero in every field, with table A: the second channel's in mono
 unfoldable pub blank : Unit
@@ -37,6 +37,10 @@ units_bits st us = flat_map (unit_bits st) us
 -- the code bits of a frame
 unfoldable pub code_bits : Settings → ChosenFrame → List Bool
 code_bits st f = units_bits st (units_of st.channels f.units)
+
+-- the bits of a frame's main data: the sum of part2_3_length of all its units; blank units add nothing
+abbrev pub main_data_length : ChosenFrame → ℕ
+main_data_length f = sum_by lengths f.units
 
 -- a coded frame: two granules of two units, in mono the second of each blank, and each unit of a channel that is there is coded
 pub record IsCoded (st : Settings) (f : ChosenFrame) : Type 0 where

@@ -7,7 +7,7 @@ use Rattle.l3_base.specs.Lengths.{slots_before}
 use Rattle.l3_stream.specs.declared.unit.Unit.{Unit}
 use Rattle.l3_stream.specs.declared.unit.ChosenFrame.{ChosenFrame}
 use Rattle.l3_stream.specs.Units.{lengths}
-use Rattle.l3_stream.specs.Frames.{units_of, code_bits, IsCoded}
+use Rattle.l3_stream.specs.Frames.{units_of, code_bits, main_data_length, IsCoded}
 use Rattle.l3_base.specs.Header.{header_bits}
 use Rattle.l3_stream.specs.Header.{header_at, header_from, settings_at}
 use Rattle.l3_stream.specs.Side.{side_bytes, IsSide}
@@ -27,9 +27,14 @@ pub record TapeIs (st : Settings) (fs : List ChosenFrame) : Type 0 where
 abbrev pub TapeByPositions : Type 0
 TapeByPositions = (st : Settings) (fs : List ChosenFrame) → FramesFit st 0 0 fs → TapeIs st fs
 
--- a coded frame has as many code bits as its units' part2_3_length say
+-- a frame has as many code bits as part2_3_length says: of the units in the stream's order, and of all units
+pub record HasLengths (st : Settings) (f : ChosenFrame) : Type 0 where
+  pub units : length (code_bits st f) ≡ lengths (units_of st.channels f.units)
+  pub all : length (code_bits st f) ≡ main_data_length f
+
+-- a coded frame has
 abbrev pub CodesHaveLengths : Type 0
-CodesHaveLengths = (st : Settings) (f : ChosenFrame) → IsCoded st f → length (code_bits st f) ≡ lengths (units_of st.channels f.units)
+CodesHaveLengths = (st : Settings) (f : ChosenFrame) → IsCoded st f → HasLengths st f
 
 -- ---- reading and spelling of headers
 

@@ -30,6 +30,18 @@ abbrev pub FramesFit : Settings → ℕ → ℕ → List ChosenFrame → Type 0
 FramesFit st n end [] = ⊤
 FramesFit st n end (f ∷ fs) = FitsAt st n end f × FramesFit st (suc n) (end_of st n f) fs
 
+-- the tape bit behind the codes of these frames, the first of which is frame n, or else the bit `end`
+unfoldable pub end_after : Settings → (n end : ℕ) → List ChosenFrame → ℕ
+end_after st n end [] = end
+end_after st n end (f ∷ fs) = end_after st (suc n) (end_of st n f) fs
+
+-- n frames that fit, behind whose codes frame n's main data can begin so many bytes before its slot
+pub record CanFollow (st : Settings) (n begin : ℕ) (fs : List ChosenFrame) : Type 0 where
+  pub number : length fs ≡ n
+  pub fit : FramesFit st 0 0 fs
+  pub there : begin ≤ slots_before st n
+  pub behind : end_after st 0 0 fs ≤ start_of st n begin
+
 -- the tape from bit `end` on, frame n being the next: zeros up to a frame's main data, its codes, and zeros up to the end of the last slot
 abbrev pub tape_from : Settings → ℕ → ℕ → List ChosenFrame → List Bool
 tape_from st n end [] = replicate (8 * slots_before st n - end) false

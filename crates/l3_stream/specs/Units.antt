@@ -13,13 +13,27 @@ use Rattle.l3_stream.specs.declared.unit.Unit.{Unit}
 unfoldable pub edge : Settings → ℕ → ℕ
 edge st band = edge_at (hertz_index_of st.sample_rate) band
 
+-- the region of a line, where the second and the third region begin at these lines
+abbrev pub region_by : (second third line : ℕ) → ℕ
+region_by second third line = if nat_lt line second then 0 else if nat_lt line third then 1 else 2
+
 -- the region of a line: 0 below edge region0 + 1, 1 from there to below edge region0 + region1 + 2, 2 from there on
 abbrev pub region_at : Settings → Unit → ℕ → ℕ
-region_at st u line = if nat_lt line (edge st (u.region0 + 1)) then 0 else if nat_lt line (edge st (u.region0 + u.region1 + 2)) then 1 else 2
+region_at st u line = region_by (edge st (u.region0 + 1)) (edge st (u.region0 + u.region1 + 2)) line
 
 -- table_select of the pair that begins at a line
 unfoldable pub table_at : Settings → Unit → ℕ → ℕ
 table_at st u line = slice_index u.tables (region_at st u line)
+
+-- the tables of lines: table_select of the three regions, and the lines at which the second and the third begin
+pub record LineTables : Type 0 where
+  pub tables : List ℕ
+  pub second : ℕ
+  pub third : ℕ
+
+-- the table of the pair that begins at a line
+unfoldable pub table_by : LineTables → ℕ → ℕ
+table_by t line = slice_index t.tables (region_by t.second t.third line)
 
 -- ---- the codes of lines, `table` giving the table of the pair that begins at a line
 

@@ -38,45 +38,16 @@ fn is_coded_unit(settings: &Settings, unit: &Unit) -> bool
     ensures coded { result ≡ true → IsCodedUnit settings.now unit.now }
     ensures refused { result ≡ false → IsCodedUnit settings.now unit.now → ⊥ }
 {
-    if !has_fields(unit) || !has_places(unit) || !are_zero(past_lines(unit)) {
+    if !has_fields(unit) || !has_places(unit) || !are_zero(unit.past_lines()) {
         return false;
     }
-    match bits_of_pairs(settings, unit, pair_lines(unit)) {
+    match bits_of_pairs(settings, unit, unit.pair_lines()) {
         None => false,
-        Some(first) => match bits_of_quads(unit.quad, unit.quads, quad_lines(unit)) {
+        Some(first) => match bits_of_quads(unit.quad, unit.quads, unit.quad_lines()) {
             None => false,
             Some(second) => u32::from(unit.length) == first + second,
         },
     }
-}
-
-// The lines of the pairs.
-fn pair_lines(unit: &Unit) -> &[i16]
-    requires { 2 * unit.now.big + 4 * unit.now.quads ≤ 576 }
-    ensures value { result.now ≡ pairs_of unit.now }
-    ensures count { length result.now ≡ 2 * unit.now.big }
-{
-    &unit.lines[..2 * usize::from(unit.big)]
-}
-
-// The lines of the quadruples.
-fn quad_lines(unit: &Unit) -> &[i16]
-    requires { 2 * unit.now.big + 4 * unit.now.quads ≤ 576 }
-    ensures value { result.now ≡ quads_of unit.now }
-    ensures count { length result.now ≡ 4 * unit.now.quads }
-{
-    let start = 2 * usize::from(unit.big);
-    &unit.lines[start..start + 4 * usize::from(unit.quads)]
-}
-
-// The lines past pairs and quadruples.
-fn past_lines(unit: &Unit) -> &[i16]
-    requires { 2 * unit.now.big + 4 * unit.now.quads ≤ 576 }
-    ensures value { result.now ≡ drop (2 * unit.now.big + 4 * unit.now.quads) unit.now.lines }
-    ensures count { length result.now ≡ 576 - (2 * unit.now.big + 4 * unit.now.quads) }
-    ensures lines { length unit.now.lines ≡ 576 }
-{
-    &unit.lines[2 * usize::from(unit.big) + 4 * usize::from(unit.quads)..]
 }
 
 // Whether the side information can say the unit's fields.

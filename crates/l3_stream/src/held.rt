@@ -6,6 +6,7 @@ ghost use Rattle.l3_huff.specs.Codes.{IsQuad, pair_code_of, quad_code_of};
 ghost use Rattle.l3_huff.specs.Laws.{HoldsPair};
 ghost use Rattle.l3_stream.specs.Units.{HasFields, PairsHold, QuadsHold, edge, pairs_code, quads_code, table_at};
 
+use crate::regions::Regions;
 use crate::unit::Unit;
 use l3_base::Settings;
 use l3_huff::{QuadTable, holds, pair_bits, quad_bits};
@@ -19,10 +20,10 @@ pub(crate) fn bits_of_pairs(settings: &Settings, unit: &Unit, lines: &[i16]) -> 
     ensures limit { IfSome result (λ bits. bits ≤ 11520) }
     ensures none { IfNone result (PairsHold (table_at settings.now unit.now) 0 lines.now → ⊥) }
 {
+    let regions = Regions::of(settings, unit);
     let mut bits = 0u32;
     for k in 0..usize::from(unit.big) {
-        let table = table_of(settings, unit, 2 * k);
-        match bits_of_pair(table, lines[2 * k], lines[2 * k + 1]) {
+        match bits_of_pair(regions.table(2 * k), lines[2 * k], lines[2 * k + 1]) {
             None => return None,
             Some(more) => bits += more,
         }
@@ -51,39 +52,6 @@ pub(crate) fn bits_of_quads(table: QuadTable, count: u16, lines: &[i16]) -> Opti
         }
     }
     Some(bits)
-}
-
-// `table_select` of the pair that begins at a line.
-fn table_of(settings: &Settings, unit: &Unit, line: usize) -> u8
-    requires { HasFields unit.now }
-    ensures { result ≡ table_at settings.now unit.now line }
-{
-    let band = usize::from(unit.region0) + 1;
-    let first = first_line(settings, band);
-    let second = first_line(settings, band + usize::from(unit.region1) + 1);
-    unit.tables[region_of(line, first, second)]
-}
-
-// The region of a line, where the regions 1 and 2 begin at these lines.
-fn region_of(line: usize, first: usize, second: usize) -> usize
-    ensures value { result ≡ (if nat_lt line first then 0 else if nat_lt line second then 1 else 2) }
-    ensures within { result ≤ 2 }
-{
-    if line < first {
-        0
-    } else if line < second {
-        1
-    } else {
-        2
-    }
-}
-
-// The first line of a scale factor band.
-fn first_line(settings: &Settings, band: usize) -> usize
-    requires { band ≤ 22 }
-    ensures { result ≡ edge settings.now band }
-{
-    usize::from(l3_tables::edge(settings.sample_rate.index(), band))
 }
 
 // The bits of a pair's code, or nothing where the table does not hold it.

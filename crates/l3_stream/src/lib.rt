@@ -10,6 +10,7 @@ mod coded;
 mod fault;
 mod held;
 mod laws;
+mod regions;
 mod unit;
 
 pub use coded::is_coded;
@@ -19,7 +20,8 @@ pub use laws::{
     code_lengths, deviation_is_exact, one_reading, reading_is_local, reading_rules,
     tape_by_positions, worked_readings,
 };
-pub use unit::{ChosenFrame, Unit};
+pub use regions::{Regions, first_line};
+pub use unit::{ChosenFrame, Unit, granule_length};
 
 #[cfg(test)]
 mod tests;

@@ -1,23 +1,9 @@
-use crate::{ChosenFrame, QuadTable, StreamFault, Unit, is_coded};
+use crate::{ChosenFrame, StreamFault, Unit, is_coded};
 use l3_base::{Channels, Rate, SampleRate, Settings};
-
-fn zero_unit() -> Unit {
-    Unit {
-        length: 0,
-        big: 0,
-        quads: 0,
-        gain: 0,
-        region0: 0,
-        region1: 0,
-        tables: [0; 3],
-        quad: QuadTable::A,
-        lines: [0; 576],
-    }
-}
 
 // The pair (1, 0) in table 1 is 010, and the quadruple (0, 0, 0, -1) in table A is 01011.
 fn coded_unit() -> Unit {
-    let mut unit = zero_unit();
+    let mut unit = Unit::blank();
     unit.length = 8;
     unit.big = 1;
     unit.quads = 1;
@@ -31,7 +17,7 @@ fn coded_unit() -> Unit {
 fn frame_of(first: Unit, second: Unit) -> ChosenFrame {
     ChosenFrame {
         begin: 0,
-        units: [[first, second], [zero_unit(), zero_unit()]],
+        units: [[first, second], [Unit::blank(), Unit::blank()]],
     }
 }
 
@@ -44,19 +30,19 @@ fn settings_of(channels: Channels) -> Settings {
 }
 
 fn is_coded_in_mono(unit: Unit) -> bool {
-    is_coded(&settings_of(Channels::Mono), &frame_of(unit, zero_unit()))
+    is_coded(&settings_of(Channels::Mono), &frame_of(unit, Unit::blank()))
 }
 
 #[test]
 fn zero_frames_are_coded(rt: HostRuntime) {
-    assert!(rt; is_coded_in_mono(zero_unit()));
-    let frame = frame_of(zero_unit(), zero_unit());
+    assert!(rt; is_coded_in_mono(Unit::blank()));
+    let frame = frame_of(Unit::blank(), Unit::blank());
     assert!(rt; is_coded(&settings_of(Channels::Stereo), &frame));
 }
 
 #[test]
 fn a_second_channel(rt: HostRuntime) {
-    let frame = frame_of(zero_unit(), coded_unit());
+    let frame = frame_of(Unit::blank(), coded_unit());
     assert!(rt; is_coded(&settings_of(Channels::Stereo), &frame));
     assert!(rt; !is_coded(&settings_of(Channels::Mono), &frame));
 }

@@ -16,41 +16,45 @@ loop-k-init c = record {
 pub pair_code-code-requires-clause-holds_x : goal.pair_code-code-requires-clause-holds_x
 pair_code-code-requires-clause-holds_x c =
     let k = c.loop-k.k in
+    let table : c.table.result ≡ table_at c.args.settings.now c.args.unit.now (2 * k) = c.table.ensures.value ∙ ap (λ f. f (2 * k)) c.of-regions.ensures in
     let lines = c.args.lines.now in
     let inside : 2 * k + 1 < length lines = omega (arith, c.requires.pairs, c.loop-k-test.true) in
     let fits : FitsSigned w16 (line_at lines (2 * k)) = search rules in
     let held = pair_held (table_at c.args.settings.now c.args.unit.now) lines k c.args.at c.loop-k.place c.args.out.now c.loop-k.out inside c.loop-k.invariant.so_far in
-    rw (c.table_of-table.ensures, to_z-of_z w16 (line_at lines (2 * k)) fits) held.0
+    rw (table, to_z-of_z w16 (line_at lines (2 * k)) fits) held.0
 
 pub pair_code-code-requires-clause-holds_y : goal.pair_code-code-requires-clause-holds_y
 pair_code-code-requires-clause-holds_y c =
     let k = c.loop-k.k in
+    let table : c.table.result ≡ table_at c.args.settings.now c.args.unit.now (2 * k) = c.table.ensures.value ∙ ap (λ f. f (2 * k)) c.of-regions.ensures in
     let lines = c.args.lines.now in
     let inside : 2 * k + 1 < length lines = omega (arith, c.requires.pairs, c.loop-k-test.true) in
     let fits : FitsSigned w16 (line_at lines (2 * k + 1)) = search rules in
     let held = pair_held (table_at c.args.settings.now c.args.unit.now) lines k c.args.at c.loop-k.place c.args.out.now c.loop-k.out inside c.loop-k.invariant.so_far in
-    rw (c.table_of-table.ensures, to_z-of_z w16 (line_at lines (2 * k + 1)) fits) held.1
+    rw (table, to_z-of_z w16 (line_at lines (2 * k + 1)) fits) held.1
 
 pub write_code-place-requires-clause-within : goal.write_code-place-requires-clause-within
 write_code-place-requires-clause-within c =
     let k = c.loop-k.k in
+    let table : c.table.result ≡ table_at c.args.settings.now c.args.unit.now (2 * k) = c.table.ensures.value ∙ ap (λ f. f (2 * k)) c.of-regions.ensures in
     let lines = c.args.lines.now in
     let inside : 2 * k + 1 < length lines = omega (arith, c.requires.pairs, c.loop-k-test.true) in
     let fits_x : FitsSigned w16 (line_at lines (2 * k)) = search rules in
     let fits_y : FitsSigned w16 (line_at lines (2 * k + 1)) = search rules in
-    let size = rw (c.table_of-table.ensures, to_z-of_z w16 (line_at lines (2 * k)) fits_x, to_z-of_z w16 (line_at lines (2 * k + 1)) fits_y) at c.pair_code-code.ensures.length in
+    let size = rw (table, to_z-of_z w16 (line_at lines (2 * k)) fits_x, to_z-of_z w16 (line_at lines (2 * k + 1)) fits_y) at c.pair_code-code.ensures.length in
     let room = pair_room (table_at c.args.settings.now c.args.unit.now) lines k c.args.at c.loop-k.place c.args.out.now c.loop-k.out c.pair_code-code.result.length inside c.loop-k.invariant.so_far c.requires.within size in
     omega (arith, room, c.loop-k.invariant.size)
 
 pub loop-k-preserved : goal.loop-k-preserved
 loop-k-preserved c =
     let k = c.loop-k.k in
+    let table : c.table.result ≡ table_at c.args.settings.now c.args.unit.now (2 * k) = c.table.ensures.value ∙ ap (λ f. f (2 * k)) c.of-regions.ensures in
     let lines = c.args.lines.now in
     let inside : 2 * k + 1 < length lines = omega (arith, c.requires.pairs, c.loop-k-test.true) in
     let fits_x : FitsSigned w16 (line_at lines (2 * k)) = search rules in
     let fits_y : FitsSigned w16 (line_at lines (2 * k + 1)) = search rules in
     let code = c.pair_code-code.result in
-    let value = rw (c.table_of-table.ensures, to_z-of_z w16 (line_at lines (2 * k)) fits_x, to_z-of_z w16 (line_at lines (2 * k + 1)) fits_y) at c.pair_code-code.ensures.code in
+    let value = rw (table, to_z-of_z w16 (line_at lines (2 * k)) fits_x, to_z-of_z w16 (line_at lines (2 * k + 1)) fits_y) at c.pair_code-code.ensures.code in
     let end : c.write_code-place.result ≡ c.loop-k.place + length (digits code.length code.value) = c.write_code-place.ensures.place ∙ ap (λ n. c.loop-k.place + n) (sym (length-digits code.length code.value)) in
     record {
       so_far = one_pair_laid (table_at c.args.settings.now c.args.unit.now) lines k c.args.at c.loop-k.place c.write_code-place.result c.args.out.now c.loop-k.out c.write_code-place.new.out

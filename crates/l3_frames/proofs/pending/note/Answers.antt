@@ -5,6 +5,7 @@ use Rattle.l3_base.specs.Lengths.{slots_before, slot_bytes_of}
 use Rattle.l3_stream.specs.Frames.{code_bits}
 use Rattle.l3_stream.specs.Tape.{start_of}
 use Rattle.l3_stream.proofs.Tape.{slots-suc}
+use Rattle.l3_stream.proofs.WholeFrame.{code_bits-main_data}
 use Rattle.l3_frames.specs.Laying.{laid_over}
 use Rattle.l3_frames.specs.Pending.{writing_of, given_bytes}
 use Rattle.l3_frames.proofs.SlotLemmas.{slots-bound}
@@ -32,7 +33,7 @@ pub overflow_mul-pending : goal.overflow_mul-pending
 overflow_mul-pending c = omega (arith, slots-bound c.args.pending.now.settings c.args.pending.now.frames, c.requires.kept.before, c.requires.count)
 
 pub overflow_add-pending : goal.overflow_add-pending
-overflow_add-pending c = omega (arith, slots-bound c.args.pending.now.settings c.args.pending.now.frames, c.requires.kept.before, c.requires.count, c.code_length.ensures.limit)
+overflow_add-pending c = omega (arith, slots-bound c.args.pending.now.settings c.args.pending.now.frames, c.requires.kept.before, c.requires.count, c.main_data_length.ensures.limit)
 
 pub overflow_add-pending-2 : goal.overflow_add-pending-2
 overflow_add-pending-2 c = omega (arith, slots-bound c.args.pending.now.settings c.args.pending.now.frames, c.requires.kept.before, c.requires.count, c.slot_bytes-slot.ensures.range, c.from.ensures)
@@ -50,7 +51,7 @@ returns-clause-noted c =
     record {
       settings = refl;
       frames = refl;
-      end = omega (arith, start, c.requires.kept.before, c.from-begin.ensures, c.code_length.ensures.value);
+      end = omega (arith, start, c.requires.kept.before, c.from-begin.ensures, c.main_data_length.ensures.value, code_bits-main_data p.settings f c.requires.fits.coded);
       heads = c.push.ensures.items ∙ ap (λ h. p.heads.items ++ h ∷ []) c.of.ensures;
       slots = c.lay.ensures.bits ∙ (ap (λ k. laid_over k code (bits_of c.append.new.self)) at ∙ ap (λ l. laid_over (start_of p.settings p.frames f.begin - 8 * given_bytes w) code (bits_of l)) longer);
       bytes = c.lay.ensures.bytes;

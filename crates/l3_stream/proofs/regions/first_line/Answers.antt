@@ -1,7 +1,7 @@
 use Rattle.std.proofs.Common.{◌∙◌, ap}
 use Rattle.l3_tables.specs.Bands.{edge_at}
 use Rattle.l3_stream.specs.Units.{edge}
-use Rattle.l3_frames.proofs.codes.first_line.Goals as goal
+use Rattle.l3_stream.proofs.regions.first_line.Goals as goal
 
 pub returns : goal.returns
 unfolding edge

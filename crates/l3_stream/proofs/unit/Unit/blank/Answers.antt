@@ -1,7 +1,7 @@
 use Rattle.std.proofs.Common.{refl}
 use Rattle.l3_stream.specs.Units.{zero_lines}
 use Rattle.l3_stream.specs.Frames.{blank}
-use Rattle.l3_side.proofs.unit_fields.blank_unit.Goals as goal
+use Rattle.l3_stream.proofs.unit.Unit.blank.Goals as goal
 
 pub returns : goal.returns
 unfolding blank zero_lines
