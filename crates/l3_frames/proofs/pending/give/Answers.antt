@@ -51,5 +51,5 @@ loop-k-preserved g c =
       place = omega (arith, next_place st first k at c.loop-k.invariant.place, c.slot_bytes.ensures.value);
       taken = subst (λ (l : List ℕ). Takes (taken c.args.sink.now) (taken c.give_frame.new.sink) l) (sym (one_given st first k at heads tape c.loop-k-test.true c.loop-k.invariant.place))
           (Takes-then (taken c.args.sink.now) (taken c.loop-k.sink) (taken c.give_frame.new.sink) (joined st first (take k heads) tape) frame c.loop-k.invariant.taken all);
-      later = search rules;
+      steady = search rules;
     }
