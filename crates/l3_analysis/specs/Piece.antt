@@ -13,8 +13,8 @@ use Rattle.l3_count.specs.Memo.{IsMemoOf, no_counts}
 use Rattle.l3_analysis.specs.declared.stage.Stage.{Stage}
 use Rattle.l3_analysis.specs.declared.stage.Stage.TheVariants.{Blank, Loaded, Transformed, Presumed}
 
--- a piece as contracts see it: its granule's number and window, the reserve that it is to suppose, and a memo for the
--- left or only channel and one for the right
+-- a piece as contracts see it: its granule's number and window, the reserve that it is to suppose,
+-- and a memo for the left or only channel and one for the right
 pub record PieceView : Type 0 where
   pub settings : Settings
   pub number : ℕ
@@ -87,8 +87,8 @@ memo_in v channel = slice_index_or v.memos channel no_counts
 abbrev pub with_memo : PieceView → ℕ → List (Option Counted) → PieceView
 with_memo v channel memo = record v { memos = slice_set v.memos channel memo }
 
--- there are two memos; where the spectra are there, a memo's counts are those of its channel's spectrum;
--- before that, and for a channel that is not there, it has none
+-- there are two memos; where the spectra are there, a memo's counts are those of its channel's
+-- spectrum; before that, and for a channel that is not there, it has none
 pub record IsSound (v : PieceView) : Type 0 where
   pub two : length v.memos ≡ 2
   pub counts : HasSpectra v.stage → (channel : ℕ) → IsChannel v channel → IsMemoOf (edges_in v) (spectrum_in v channel) (memo_in v channel)

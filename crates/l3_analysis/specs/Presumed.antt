@@ -41,7 +41,8 @@ unfoldable pub presumed_gain : PieceView → ℕ → ℕ
 presumed_gain v channel =
     let budget = budget_under v.settings (frame_in v) (reserve_before v channel) (demand_in v channel) in picked_gain (edges_in v) (spectrum_in v channel) budget
 
--- how many counts are made for a channel: the gains from its first to the picked one that its memo lacks
+-- how many counts are made for a channel: the gains from its first to the picked one that its memo
+-- lacks
 abbrev pub presumed_steps_in : PieceView → ℕ → ℕ
 presumed_steps_in v channel = lacking (memo_in v channel) (first_gain_of (spectrum_in v channel)) (presumed_gain v channel)
 
@@ -49,8 +50,8 @@ presumed_steps_in v channel = lacking (memo_in v channel) (first_gain_of (spectr
 unfoldable pub presumed_steps : PieceView → ℕ
 presumed_steps v = sum (map (presumed_steps_in v) (channels_in v.settings.channels))
 
--- each memo has the counts of all gains from the first to the picked one besides what it had; a channel that is not
--- there keeps its memo, and nothing else changes but the stage
+-- each memo has the counts of all gains from the first to the picked one besides what it had; a
+-- channel that is not there keeps its memo, and nothing else changes but the stage
 pub record IsPresumed (before after : PieceView) : Type 0 where
   pub same : after ≡ record before { stage = Presumed; memos = after.memos }
   pub counts : (channel : ℕ) → IsChannel before channel →

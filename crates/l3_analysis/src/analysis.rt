@@ -90,6 +90,7 @@ impl Analysis {
         ensures spectrum { self.new.spectrum ≡ self.old.spectrum }
         ensures demand { self.new.demand ≡ self.old.demand }
     {
+        // For the proof: the mean fits 32 bits, which bounds the reserve.
         let _mean = settings.mean_bits(frame);
         let budget = reserve.budget(settings, frame, self.demand);
         let picked = self.choose(settings.sample_rate, budget, steps);

@@ -12,8 +12,9 @@ use std::sync::ledger::Ledger;
 
 /// One granule: its window, and what was made of it so far. It has at most 32 KB.
 ///
-/// Blank, loaded, transformed, presumed: from transformed on its spectra and demands are those of its own window and settings,
-/// and each entry of a memo is the count of its channel's spectrum. Before, the memos are empty. In mono nothing is made of the right channel.
+/// Blank, loaded, transformed, presumed: from transformed on its spectra and demands are those of
+/// its own window and settings, and each entry of a memo is the count of its channel's spectrum.
+/// Before, the memos are empty. In mono nothing is made of the right channel.
 #[derive(Drop)]
 pub struct Piece {
     settings: Settings,
@@ -81,7 +82,8 @@ impl Piece {
         }
     }
 
-    /// Takes another granule, its window and a guess of the reserve before it in bits. Nothing that was made of the last one stays.
+    /// Takes another granule, its window and a guess of the reserve before it in bits. Nothing that
+    /// was made of the last one stays.
     pub fn load(&mut self, number: GranuleNo, window: &Window, guess: u32)
         ensures { self.new ≡ loaded_with self.old number window.now guess }
     {
@@ -107,8 +109,9 @@ impl Piece {
         }
     }
 
-    /// Picks the gain of each channel of a transformed piece, under a reserve that starts at the guess and is spent from channel to
-    /// channel. So the memos have the counts of all gains from the first to that pick; one step of the counter for each that is made.
+    /// Picks the gain of each channel of a transformed piece, under a reserve that starts at the
+    /// guess and is spent from channel to channel. So the memos have the counts of all gains from
+    /// the first to that pick; one step of the counter for each that is made.
     pub fn presume<L: Ledger + Send>(&mut self, steps: &mut Steps<L>)
         requires { self.old.stage ≡ Transformed }
         ensures presumed { IsPresumed self.old self.new }
@@ -127,7 +130,8 @@ impl Piece {
         }
     }
 
-    /// Picks the gain of a channel for a budget in bits: the least whose count is within it. Its memo gets what it lacks up to there.
+    /// Picks the gain of a channel for a budget in bits: the least whose count is within it. Its
+    /// memo gets what it lacks up to there.
     pub fn choose<L: Ledger + Send>(
         &mut self,
         channel: u8,

@@ -48,7 +48,8 @@ fn has_count(piece: &Piece, gain: u8) -> bool
     piece.memo(0).get(gain).is_some()
 }
 
-// Whether the memo has a count at gain 0 and at gain 1 after counting, and at gain 0 after the next load.
+// Whether the memo has a count at gain 0 and at gain 1 after counting, and at gain 0 after the next
+// load.
 fn counts<L: Ledger + Send>(blank: Blank, number: GranuleNo) -> [bool; 3]
     requires name { blank.name ≡ L.name }
     requires parts { blank.parts ≡ L.parts }
@@ -63,7 +64,8 @@ fn counts<L: Ledger + Send>(blank: Blank, number: GranuleNo) -> [bool; 3]
     [at_first, at_second, has_count(&piece, 0)]
 }
 
-// Gain and new counts for a budget of 100 bits, on a piece that is only transformed and on one that is presumed too.
+// Gain and new counts for a budget of 100 bits, on a piece that is only transformed and on one that
+// is presumed too.
 fn choices<L: Ledger + Send>(blank: Blank, number: GranuleNo) -> [(u8, u16); 2]
     requires name { blank.name ≡ L.name }
     requires parts { blank.parts ≡ L.parts }

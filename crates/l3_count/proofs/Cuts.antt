@@ -1,4 +1,5 @@
--- What is kept of the quantised values of a spectrum is what the choice of regions needs to know of them.
+-- What is kept of the quantised values of a spectrum is what the choice of regions needs to know of
+-- them.
 use Rattle.std.proofs.Common.{◌≡◌, ℕ, ◌-◌, ◌+◌, ◌&&◌, List, [], ◌∷◌, length, map, min, get_or, take, drop, leb, ℤ, refl, ap, ◌∙◌, sym}
 use Rattle.std.specs.Prelude.{slice_range, unsigned_abs}
 use Rattle.std.specs.List.{list_all}

@@ -9,7 +9,8 @@ use Rattle.l3_region.specs.declared.split.Split.{Split}
 use Rattle.l3_region.specs.Regions.{regions_of}
 use Rattle.l3_region.specs.Split.{split_of}
 
--- the count of a unit: global_gain, part2_3_length, big_values, quadruples, region0_count, region1_count, table_select, count1table_select
+-- the count of a unit: global_gain, part2_3_length, big_values, quadruples, region0_count,
+-- region1_count, table_select, count1table_select
 pub record Counted : Type 0 where
   pub gain : ℕ
   pub bits : ℕ
@@ -48,7 +49,8 @@ split_in c = record { big = c.big; quads = c.quads }
 abbrev pub regions_in : Counted → Regions
 regions_in c = record { region0 = c.region0; region1 = c.region1; tables = c.tables; quad = c.quad; bits = c.bits }
 
--- what holds of any count: its parts have room in their fields of the side information, but that a budget limits its bits to 4095
+-- what holds of any count: its parts have room in their fields of the side information, but that a
+-- budget limits its bits to 4095
 pub record IsCounted (c : Counted) : Type 0 where
   pub gain : c.gain ≤ 255
   pub bits : c.bits ≤ 9216

@@ -28,7 +28,8 @@ pub record IsEmptyAtTheTop (edges : List ℕ) (lines : List ℤ) (c : Counted) :
 abbrev pub EmptyAtTheTop : Type 0
 EmptyAtTheTop = (edges : List ℕ) (lines : List ℤ) → All IsLine lines → (c : Counted) × IsEmptyAtTheTop edges lines c
 
--- a count is at its gain, with the split of the quantised values; its regions and tables may be taken, and its bits are theirs
+-- a count is at its gain, with the split of the quantised values; its regions and tables may be
+-- taken, and its bits are theirs
 pub record IsCountOf (edges : List ℕ) (q : List ℤ) (gain : ℕ) (c : Counted) : Type 0 where
   pub gain_is : c.gain ≡ gain
   pub split_is : split_in c ≡ split_of q

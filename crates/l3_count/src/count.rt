@@ -7,7 +7,8 @@ use l3_base::SampleRate;
 use l3_region::{QuadTable, Regions, Split, best_of_cut};
 use std::marker::Model;
 
-/// What a unit costs at a gain, with the split, regions and tables that its bits are for. It has at most 16 bytes.
+/// What a unit costs at a gain, with the split, regions and tables that its bits are for. It has at
+/// most 16 bytes.
 #[derive(Clone, Copy, Debug)]
 pub struct Count {
     bits: u16,
@@ -76,7 +77,8 @@ impl Count {
         }
     }
 
-    // The count at a gain of quantised values that are known by their absolute values cut at 15 and by the greatest one of each band.
+    // The count at a gain of quantised values that are known by their absolute values cut at 15 and
+    // by the greatest one of each band.
     pub(crate) fn of_cut(cut: &[u8; 576], peaks: &[u16; 22], rate: SampleRate, gain: u8) -> Count
         requires { (q : List ℤ) × AreCutOf (band_edges rate) q cut.now peaks.now }
         ensures { (q : List ℤ) → AreCutOf (band_edges rate) q cut.now peaks.now → result ≡ counted (band_edges rate) gain q }

@@ -25,7 +25,8 @@ fn no_peaks() -> [u16; 22]
     [0; 22]
 }
 
-/// What a unit costs at a gain, or `None` exactly where a quantised value is above 8191 either way. It is one step of the counter, in both cases.
+/// What a unit costs at a gain, or `None` exactly where a quantised value is above 8191 either way.
+/// It is one step of the counter, in both cases.
 pub fn count_at<L: Ledger + Send>(
     spec: &Spectrum,
     rate: SampleRate,
@@ -40,7 +41,8 @@ pub fn count_at<L: Ledger + Send>(
     count_with(spec, &line_peaks(spec, rate), rate, gain, steps)
 }
 
-/// The same over the spectrum's greatest line of each band, which serve all gains and are made once by `line_peaks`.
+/// The same over the spectrum's greatest line of each band, which serve all gains and are made once
+/// by `line_peaks`.
 pub fn count_with<L: Ledger + Send>(
     spec: &Spectrum,
     peaks: &[u32; 22],

@@ -1,6 +1,7 @@
 ghost use Rattle.l3_count.specs.Laws.{CountsTheFewest, CountsWhatIsTaken, EmptyAtTheTop, IsThereFromTheFirstGain, IsThereWhereCodable};
 
-/// A count is there exactly where the spectrum can be coded, and its bits are the fewest that regions and tables give.
+/// A count is there exactly where the spectrum can be coded, and its bits are the fewest that
+/// regions and tables give.
 pub fn counts_are_least()
     ensures codable { IsThereWhereCodable }
     ensures first { IsThereFromTheFirstGain }

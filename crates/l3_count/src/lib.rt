@@ -1,6 +1,7 @@
 //! A spectrum and a gain -> what the unit costs there; the memo of such counts.
 //!
-//! The quantised values of one channel of one granule at a `global_gain` -> their split, regions and tables, and the bits of all their codes.
+//! The quantised values of one channel of one granule at a `global_gain` -> their split, regions
+//! and tables, and the bits of all their codes.
 //! Before: quantiser, split and regions; after: the search for the least gain within a budget.
 #![tactic(auto)]
 

@@ -4,7 +4,8 @@ ghost use Rattle.l3_count.specs.Memo.{no_counts};
 use crate::count::Count;
 use std::marker::Model;
 
-/// The counts of a spectrum by gain, where they were made: at most one for each gain of 0 to 255. It has at most 4096 bytes.
+/// The counts of a spectrum by gain, where they were made: at most one for each gain of 0 to 255.
+/// It has at most 4096 bytes.
 #[derive(Drop)]
 pub struct Memo {
     counts: [Option<Count>; 256],

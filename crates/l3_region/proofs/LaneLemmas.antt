@@ -151,7 +151,8 @@ least_of_short low high class small grow rising =
     sym (least_below-front f 16 8 (λ j from lt.
     omega (arith, least_below-lower f 16 12 (omega arith), mask_none class 12 small (omega arith) (omega arith), mask_none class j small (omega arith) (omega arith), grow 12 j (omega arith) (omega arith) (omega arith), rising 12 (omega arith), rising j (omega arith))))
 
--- the lane of the class is the first one of least cost where only tables with linbits hold the values
+-- the lane of the class is the first one of least cost where only tables with linbits hold the
+-- values
 pub first_of_long : (low high : List ℕ) (class : ℕ) → 6 ≤ class → class < 14 → LinbitsGrow low high → ((k : ℕ) → k < 24 → get_or low k 0 ≤ get_or high k 0) → ((k : ℕ) → k < 24 → get_or high k 0 ≤ 9216) →
     (mask_at class (class + 6) ≡ 0) × IsFirstLane (lane_cost low high class) 24 (class + 6)
 unfolding LinbitsGrow

@@ -90,10 +90,6 @@ pub bound_last : bound_at 13 ≡ 8206
 unfolding bound_at
 bound_last = refl
 
-pub bound_first : bound_at 0 ≡ 0
-unfolding bound_at
-bound_first = refl
-
 bound_rises-one : (i : ℕ) → i < 13 → bound_at i < bound_at (i + 1)
 unfolding bound_at
 bound_rises-one i lt = ltb-true _ _ (agree_below_at (λ j. ltb (bound_at j) (bound_at (j + 1))) (λ _. true) 13 i refl lt)

@@ -1,4 +1,5 @@
--- The code tables side by side, a lane each, and sums over them. Only the inside of this crate speaks of these.
+-- The code tables side by side, a lane each, and sums over them. Only the inside of this crate
+-- speaks of these.
 use Rattle.std.specs.Prelude.{◌≡◌, ◌<◌, ◌≤◌, ◌+◌, ◌-◌, ◌*◌, ◌/◌, ◌%◌, ◌^◌, ℕ, zero, suc, nat_le, List, [], max, min, slice_index, slice_index_or, ℤ, unsigned_abs, All, length, slice_range}
 use Rattle.l3_tables.specs.Lists.{entry}
 use Rattle.l3_tables.specs.Bands.{edge_at, edges_at}
@@ -94,7 +95,8 @@ pub record IsFirstLane (f : ℕ → ℕ) (n r : ℕ) : Type 0 where
   pub least : (j : ℕ) → j < n → f r ≤ f j
   pub first : (j : ℕ) → j < r → f r < f j
 
--- pair r is the first of those of least cost among the first n, and costs so many bits; of no pairs, more than any costs
+-- pair r is the first of those of least cost among the first n, and costs so many bits; of no
+-- pairs, more than any costs
 pub record IsBestPair (f : ℕ → ℕ) (n r bits : ℕ) : Type 0 where
   pub lower : (j : ℕ) → j < n → IsPair j → bits ≤ f j
   pub earlier : (j : ℕ) → j < n → j < r → IsPair j → bits < f j
@@ -105,7 +107,8 @@ pub record IsBestPair (f : ℕ → ℕ) (n r bits : ℕ) : Type 0 where
 unfoldable pub LinbitsGrow : List ℕ → List ℕ → Type 0
 LinbitsGrow low high = (k l : ℕ) → 12 ≤ k → k ≤ l → l < 24 → slice_index high k + slice_index low l ≤ slice_index high l + slice_index low k
 
--- rows of sums that rise lane by lane and stay small, without bits in the lane of table 0, and classes that there are
+-- rows of sums that rise lane by lane and stay small, without bits in the lane of table 0, and
+-- classes that there are
 pub record AreSums (rows : List (List ℕ)) (classes : List ℕ) : Type 0 where
   pub rising : (i j k : ℕ) → i ≤ j → j ≤ 22 → k < 24 → sum_at rows i k ≤ sum_at rows j k
   pub small : (i k : ℕ) → i ≤ 22 → k < 24 → sum_at rows i k ≤ 9216
@@ -121,7 +124,8 @@ IsBandClass cut peaks rate end band class = (q : List ℤ) → AreCutOf (edges_a
 abbrev pub values_between : List ℤ → ℕ → ℕ → ℕ → ℕ → List ℤ
 values_between q rate end i j = slice_range q (min (edge_at rate i) end) (min (edge_at rate j) end)
 
--- rows and classes are those of the values up to a line: the sums of each lane up to each band, and the class of each band
+-- rows and classes are those of the values up to a line: the sums of each lane up to each band, and
+-- the class of each band
 pub record AreSumsOf (q : List ℤ) (rate end : ℕ) (rows : List (List ℕ)) (classes : List ℕ) : Type 0 where
   pub rate_small : rate < 3
   pub even : end % 2 ≡ 0

@@ -1,4 +1,5 @@
-//! The choice of regions: the cheapest lane between two rows of sums, and the pair of region lengths of least cost.
+//! The choice of regions: the cheapest lane between two rows of sums, and the pair of region
+//! lengths of least cost.
 
 ghost use Rattle.std.specs.Prelude.{◌≡◌, ◌<◌, ◌≤◌, ◌+◌, ◌-◌, ◌*◌, ◌/◌, ◌%◌, ◌^◌, ℕ, length, replicate, slice_index, slice_index_or, []};
 ghost use Rattle.l3_region.specs.Lanes.{AreFloors, AreSums, CostsGrow, IsBestPair, IsFirstLane, LinbitsGrow, class_from, lane_cost, lane_table, least_below, pair_cost, range_cost};
@@ -8,7 +9,8 @@ use crate::lanes::{mask, table};
 // Bits of pairs in each lane.
 pub(crate) type Row = [u16; 24];
 
-// What the bits between two rows of sums are in the cheapest lane, where a table without linbits holds the values.
+// What the bits between two rows of sums are in the cheapest lane, where a table without linbits
+// holds the values.
 //
 // Of the lanes with linbits the first one is enough.
 #[inline(never)]
@@ -26,7 +28,8 @@ fn least_of_sixteen(low: &Row, high: &Row, class: u8) -> u16
     least
 }
 
-// The first lane of least cost between two rows of sums, where a table without linbits holds the values.
+// The first lane of least cost between two rows of sums, where a table without linbits holds the
+// values.
 //
 // Of the lanes with linbits the first one is enough.
 fn first_of_thirteen(low: &Row, high: &Row, class: u8) -> usize
@@ -50,7 +53,8 @@ fn first_of_thirteen(low: &Row, high: &Row, class: u8) -> usize
 
 // The first lane of least cost between two rows of sums.
 //
-// Where only tables with linbits hold the values, it is the first of these; zeros cost nothing in lane 0.
+// Where only tables with linbits hold the values, it is the first of these; zeros cost nothing in
+// lane 0.
 fn first_lane(low: &Row, high: &Row, class: u8) -> usize
     requires class { class < 14 }
     requires rising { (k : ℕ) → k < 24 → slice_index low.now k ≤ slice_index high.now k }
@@ -154,7 +158,8 @@ fn floors(rows: &[Row; 23], classes: &[u8; 22]) -> [u32; 23]
     floors
 }
 
-// A pair of region lengths by its place, 8 times the first one and the second one, and the bits of all pairs of values.
+// A pair of region lengths by its place, 8 times the first one and the second one, and the bits of
+// all pairs of values.
 #[derive(Clone, Copy)]
 pub(crate) struct Pair {
     pub place: u8,

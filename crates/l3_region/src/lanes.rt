@@ -4,7 +4,8 @@ ghost use Rattle.std.specs.Prelude.{◌≡◌, ◌<◌, ◌≤◌, ℕ, length, 
 ghost use Rattle.l3_huff.specs.Tables.{greatest_of};
 ghost use Rattle.l3_region.specs.Lanes.{lane_table, lane_class, bound_at, mask_at};
 
-// The table of each lane: those of the profile in rising order, and the last one again to fill up the lanes.
+// The table of each lane: those of the profile in rising order, and the last one again to fill up
+// the lanes.
 #[rattlefmt::skip]
 static TABLES: [u8; 24] = [
     0, 1, 2, 3, 5, 6, 7, 8, 9, 10, 11, 12, 24, 25, 26, 27, 28, 29, 30, 31, 31, 31, 31, 31,
@@ -20,7 +21,8 @@ static CLASSES: [u8; 24] = [
 #[rattlefmt::skip]
 static BOUNDS: [u16; 14] = [0, 1, 2, 3, 5, 7, 30, 46, 78, 142, 270, 526, 2062, 8206];
 
-// What is added to the bits of each lane, by the class of the greatest value: more than any pairs take, where the lane does not hold it.
+// What is added to the bits of each lane, by the class of the greatest value: more than any pairs
+// take, where the lane does not hold it.
 #[rattlefmt::skip]
 static MASKS: [[u16; 24]; 14] = [
     [    0,     0,     0,     0,     0,     0,     0,     0,     0,     0,     0,     0,     0,     0,     0,     0,     0,     0,     0,     0,     0,     0,     0,     0],

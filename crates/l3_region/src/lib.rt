@@ -1,8 +1,10 @@
 //! Quantised values -> their split, the regions and tables of fewest bits.
 //!
-//! The 576 quantised values of a unit -> how many pairs and quadruples they are, and the regions and code tables that take the fewest bits.
+//! The 576 quantised values of a unit -> how many pairs and quadruples they are, and the regions
+//! and code tables that take the fewest bits.
 //! Before: the quantiser and the code tables; after: the bit count of a unit at a gain.
-//! Which regions and tables are taken is an encoder's own choice; to take the fewest bits, and the first at a tie, is this project's.
+//! Which regions and tables are taken is an encoder's own choice; to take the fewest bits, and the
+//! first at a tie, is this project's.
 #![tactic(auto)]
 
 mod choice;

@@ -80,7 +80,8 @@ fn regions_of_cut(cut: &[u8; 576], peaks: &[u16; 22], split: Split, rate: Sample
     }
 }
 
-/// The split, and the regions and tables that take the fewest bits, of values that are known by their absolute values cut at 15 and by the greatest one of each band.
+/// The split, and the regions and tables that take the fewest bits, of values that are known by
+/// their absolute values cut at 15 and by the greatest one of each band.
 ///
 /// It is what `split_of` and `best` give for the values themselves. Errors: none.
 pub fn best_of_cut(cut: &[u8; 576], peaks: &[u16; 22], rate: SampleRate) -> (Split, Regions)
@@ -101,7 +102,8 @@ pub fn best_of_cut(cut: &[u8; 576], peaks: &[u16; 22], rate: SampleRate) -> (Spl
 
 /// The regions and tables that take the fewest bits, for values of at most 8191 in absolute value.
 ///
-/// Of equal choices it is the one of least `region0_count`, then `region1_count`, with tables of least number, and table A for quadruples.
+/// Of equal choices it is the one of least `region0_count`, then `region1_count`, with tables of
+/// least number, and table A for quadruples.
 /// Bands are those of long blocks at the sampling frequency. Errors: none.
 pub fn best(q: &[i16; 576], split: Split, rate: SampleRate) -> Regions
     requires small { All (λ x. unsigned_abs x ≤ 8191) q.now }

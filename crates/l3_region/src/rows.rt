@@ -3,7 +3,8 @@
 ghost use Rattle.std.specs.Prelude.{◌≡◌, ◌<◌, ◌≤◌, ℕ, length, slice_index};
 ghost use Rattle.l3_region.specs.Lanes.{row_at};
 
-// The bits of pairs in each lane's table, linbits and signs included, by the place of their absolute values cut at 15; 0 where the table has no such code.
+// The bits of pairs in each lane's table, linbits and signs included, by the place of their
+// absolute values cut at 15; 0 where the table has no such code.
 #[rattlefmt::skip]
 static ROWS: [[u16; 24]; 256] = [
     [ 0,  1,  1,  2,  1,  3,  1,  2,  3,  1,  2,  4,  4,  4,  4,  4,  4,  4,  4,  4,  4,  4,  4,  4],

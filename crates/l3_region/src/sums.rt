@@ -1,4 +1,5 @@
-//! Sums of the bits of pairs up to each band, lane by lane, and the class of each band's greatest value.
+//! Sums of the bits of pairs up to each band, lane by lane, and the class of each band's greatest
+//! value.
 
 ghost use Rattle.std.specs.Prelude.{◌≡◌, ◌<◌, ◌≤◌, ◌+◌, ◌*◌, ◌/◌, ◌%◌, ◌^◌, ℕ, ℤ, List, All, length, min, nat_le, replicate, slice_index, slice_index_or, slice_range, []};
 ghost use Rattle.std.specs.List.{list_all};
@@ -74,7 +75,8 @@ pub(crate) fn greatest(values: &[u8]) -> u8
     greatest
 }
 
-// The greatest value of a band's part, which a cut value below 15 tells, and otherwise the greatest one of the band, since all others are at most 1.
+// The greatest value of a band's part, which a cut value below 15 tells, and otherwise the greatest
+// one of the band, since all others are at most 1.
 #[inline(always)]
 fn peak_of_part(part: &[u8], peak: u16) -> u16
     ensures { (m : ℕ) × ((n : ℕ) → list_all (λ x. nat_le x n) part.now ≡ nat_le m n) × (m < 15 → result ≡ m) × (15 ≤ m → result ≡ peak) }
@@ -109,7 +111,8 @@ fn band_class(
     })
 }
 
-// Writes the sums up to each band and the class of each band, all cut at the line where the pairs end.
+// Writes the sums up to each band and the class of each band, all cut at the line where the pairs
+// end.
 pub(crate) fn sum_bands(
     cut: &[u8; 576],
     peaks: &[u16; 22],

@@ -35,13 +35,15 @@ gains_from first last = range_with_len first (last + 1 - first)
 unfoldable pub lacking : List (Option Counted) → (first last : ℕ) → ℕ
 lacking memo first last = count_by (λ gain. is_none (memo_at memo gain)) (gains_from first last)
 
--- a count is the spectrum's own at its gain, it is within the budget, and no lesser gain has one that is
+-- a count is the spectrum's own at its gain, it is within the budget, and no lesser gain has one
+-- that is
 pub record IsLeastWithin (edges : List ℕ) (lines : List ℤ) (budget : ℕ) (c : Counted) : Type 0 where
   pub own : count_of edges lines c.gain ≡ Some c
   pub within : c.bits ≤ budget
   pub least : (gain : ℕ) (other : Counted) → count_of edges lines gain ≡ Some other → other.bits ≤ budget → c.gain ≤ gain
 
--- a memo has the spectrum's counts at the gains from the first to the last, and at all others what it had before
+-- a memo has the spectrum's counts at the gains from the first to the last, and at all others what
+-- it had before
 pub record HasCountsTo (edges : List ℕ) (lines : List ℤ) (first last : ℕ) (before after : List (Option Counted)) : Type 0 where
   pub counts : (gain : ℕ) → first ≤ gain → gain ≤ last → memo_at after gain ≡ count_of edges lines gain
   pub below : (gain : ℕ) → gain < first → memo_at after gain ≡ memo_at before gain

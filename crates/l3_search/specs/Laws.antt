@@ -6,7 +6,8 @@ use Rattle.l3_count.specs.Count.{Counted}
 use Rattle.l3_count.specs.Memo.{no_counts}
 use Rattle.l3_search.specs.Gain.{HasCountsTo, IsLeastWithin, lacking, picked, picked_gain, tried_of}
 
--- the picked gain is one of 0 to 255 from the first gain on, and its count is the least within the budget
+-- the picked gain is one of 0 to 255 from the first gain on, and its count is the least within the
+-- budget
 pub record IsPicked (edges : List ℕ) (lines : List ℤ) (budget : ℕ) (c : Counted) : Type 0 where
   pub limit : picked_gain edges lines budget ≤ 255
   pub first : first_gain_of lines ≤ picked_gain edges lines budget

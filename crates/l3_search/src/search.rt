@@ -27,6 +27,7 @@ fn start(spec: &Spectrum) -> u8
     ensures value { result ≡ first_gain_of spec.now }
     ensures small { All IsLine spec.now }
 {
+    // For the proof: lines are in range.
     let _lines = spec.lines();
     first_gain(spec)
 }
@@ -57,7 +58,8 @@ fn make<L: Ledger + Send>(
     }
 }
 
-// The memo's count at a gain that is no less than the first one, or where it has none, one that is made.
+// The memo's count at a gain that is no less than the first one, or where it has none, one that is
+// made.
 fn look_up<L: Ledger + Send>(
     spec: &Spectrum,
     peaks: &[u32; 22],
@@ -85,10 +87,12 @@ fn look_up<L: Ledger + Send>(
     }
 }
 
-/// The count at the least gain of 0 to 255 whose bits are at most the budget. There is one for each budget, since at 255 no bits are left.
+/// The count at the least gain of 0 to 255 whose bits are at most the budget. There is one for each
+/// budget, since at 255 no bits are left.
 ///
-/// The memo's counts are those of this spectrum. What it lacks up to the picked gain is counted and put into it, one step of the counter
-/// each; bits need not fall as the gain rises, so no gain is passed over. That the least gain is taken is this project's own.
+/// The memo's counts are those of this spectrum. What it lacks up to the picked gain is counted and
+/// put into it, one step of the counter each; bits need not fall as the gain rises, so no gain is
+/// passed over. That the least gain is taken is this project's own.
 pub fn pick<L: Ledger + Send>(
     spec: &Spectrum,
     rate: SampleRate,

@@ -19,7 +19,8 @@ fn numbers(picked: &Picked) -> (u8, u32, u16) {
     (picked.count.gain(), picked.count.bits(), picked.made)
 }
 
-// What is picked at 44100 Hz for two budgets in turn with one memo: gain, bits, counts that were made.
+// What is picked at 44100 Hz for two budgets in turn with one memo: gain, bits, counts that were
+// made.
 fn picks<L: Ledger + Send>(blank: Blank, line: i32, budget: u32, next: u32) -> [(u8, u32, u16); 2]
     requires name { blank.name ≡ L.name }
     requires parts { blank.parts ≡ L.parts }
