@@ -8,4 +8,5 @@ returns-clause-value c =
     let number = c.args.number / 2 ^ (c.args.size - c.args.first - c.args.width) in
     ap (λ p. number % p) c.power.ensures
     ∙ (sym (number_of-digits_mod c.args.width number)
-    ∙ ap number_of (sym (field-is c.args.size c.args.first c.args.width c.args.number c.requires.within)))
+    ∙ ap number_of (sym (field-is c.args.size c.args.first c.args.width c.args.number
+    c.requires.within)))

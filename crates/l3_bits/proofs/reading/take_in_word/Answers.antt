@@ -9,4 +9,5 @@ returns-clause-value c =
     c.field_of.ensures.value
     ∙ (ap (λ n. number_of (take c.args.width (drop c.args.first (digits 32 n)))) c.from.ensures
     ∙ (ap (λ l. number_of (take c.args.width (drop c.args.first l))) c.word_at.ensures
-    ∙ ap number_of (field_of_stretch (bits_of bytes) (8 * c.args.byte) 32 c.args.first c.args.width c.requires.word)))
+    ∙ ap number_of (field_of_stretch (bits_of bytes) (8 * c.args.byte) 32 c.args.first c.args.width
+    c.requires.word)))
