@@ -32,6 +32,15 @@ without_worst scores = if nat_le (length scores) 1 then scores else remove score
 abbrev pub after_tell : (tells : ℕ) → List ℕ → List ℕ
 after_tell tells scores = if tells == 0 then without_worst scores else scores
 
+-- the answers of the members that are left then
+abbrev pub kept_answers : (tells : ℕ) (scores answers : List ℕ) → List ℕ
+kept_answers tells scores answers =
+    if tells == 0 then (if nat_le (length scores) 1 then answers else remove answers (worst_place scores)) else answers
+
 -- the answer of the member of the best score
 abbrev pub guess_of : (scores answers : List ℕ) → ℕ
 guess_of scores answers = slice_index answers (best_place scores)
+
+-- the answer of the best of those that are left
+abbrev pub guess_after : (tells : ℕ) (scores answers : List ℕ) → ℕ
+guess_after tells scores answers = guess_of (after_tell tells scores) (kept_answers tells scores answers)

@@ -12,8 +12,12 @@ pub trait Guesser: Send + Drop {
     /// The guess for each granule's number, as things stand.
     ghost guesses: { Self → ℕ → ℕ };
 
+    /// The guess for each granule's number once this number and reserve are told.
+    ghost guesses_after: { Self → (number reserve : ℕ) → ℕ → ℕ };
+
     /// The commit of this granule begins with a reserve of so many bits.
-    fn tell(&mut self, number: GranuleNo, reserve: u32);
+    fn tell(&mut self, number: GranuleNo, reserve: u32)
+        ensures after { (n : ℕ) → guesses self.new n ≡ guesses_after self.old number reserve n };
 
     /// The guess for this granule, in bits.
     fn guess(&self, number: GranuleNo) -> u32
@@ -41,6 +45,8 @@ impl Flat {
 
 impl Guesser for Flat {
     ghost guesses = { λ flat _. flat };
+
+    ghost guesses_after = { λ flat _ _ _. flat };
 
     fn tell(&mut self, _number: GranuleNo, _reserve: u32)
         ensures { self.new ≡ self.old }
@@ -74,6 +80,8 @@ impl Last {
 
 impl Guesser for Last {
     ghost guesses = { λ last _. last };
+
+    ghost guesses_after = { λ _ _ reserve _. reserve };
 
     fn tell(&mut self, _number: GranuleNo, reserve: u32)
         ensures { self.new ≡ reserve }
@@ -113,6 +121,8 @@ impl Mean {
 
 impl Guesser for Mean {
     ghost guesses = { λ told _. mean_of told };
+
+    ghost guesses_after = { λ told _ reserve _. mean_of (last_eight (told ++ reserve ∷ [])) };
 
     fn tell(&mut self, _number: GranuleNo, reserve: u32)
         ensures { self.new ≡ last_eight (self.old ++ reserve ∷ []) }
@@ -158,6 +168,9 @@ pub struct Chosen(pub Box<dyn Guesser>);
 
 impl Guesser for Chosen {
     ghost guesses = { λ chosen number. (Guesser-box chosen.0).guesses chosen.0.value number };
+
+    ghost guesses_after = { λ chosen number reserve n.
+        (Guesser-box chosen.0).guesses_after chosen.0.value number reserve n };
 
     fn tell(&mut self, number: GranuleNo, reserve: u32) {
         self.0.tell(number, reserve);

@@ -1,4 +1,4 @@
-ghost use Rattle.std.specs.Prelude.{◌≡◌, map, replicate, vec_len, IfOk};
+ghost use Rattle.std.specs.Prelude.{◌≡◌, ℕ, map, replicate, vec_len, IfOk};
 ghost use Rattle.l3_guess.specs.Scores.{risen, all_risen};
 
 use crate::guesser::Guesser;
@@ -22,7 +22,8 @@ impl Member {
 
     /// Compares its guess with the reserve, and then tells it.
     pub fn tell(&mut self, number: GranuleNo, reserve: u32)
-        ensures { self.new.score ≡ risen self.old.score (guesses self.old.guesser number) reserve }
+        ensures score { self.new.score ≡ risen self.old.score (guesses self.old.guesser number) reserve }
+        ensures after { (n : ℕ) → guesses self.new.guesser n ≡ guesses_after self.old.guesser number reserve n }
     {
         let guess = self.guess(number);
         let distance = u128::from(guess.abs_diff(reserve));
@@ -33,10 +34,12 @@ impl Member {
 
 /// Scores each member by its guess, and then tells it.
 pub fn tell_each(members: &mut [Member], number: GranuleNo, reserve: u32)
-    ensures { map (λ m. m.score) members.new ≡ all_risen
+    ensures scores { map (λ m. m.score) members.new ≡ all_risen
         (map (λ m. m.score) members.old)
         (map (λ m. guesses m.guesser number) members.old)
         reserve }
+    ensures after { (n : ℕ) → map (λ m. guesses m.guesser n) members.new
+        ≡ map (λ m. guesses_after m.guesser number reserve n) members.old }
 {
     for place in 0..members.len() {
         let member = &mut members[place];

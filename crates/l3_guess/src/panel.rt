@@ -1,5 +1,5 @@
 ghost use Rattle.std.specs.Prelude.{◌≡◌, ℕ, ◌+◌, ◌%◌, ◌<◌, List, map, length, replicate, remove, vec_len, slice_index, IfOk, IfSome, IfNone};
-ghost use Rattle.l3_guess.specs.Scores.{all_risen, guess_of, worst_place, after_tell};
+ghost use Rattle.l3_guess.specs.Scores.{all_risen, guess_of, guess_after, worst_place, after_tell, kept_answers};
 
 use crate::guesser::Guesser;
 use crate::member::{Member, tell_each, unscored};
@@ -14,6 +14,9 @@ pub trait Standings {
 
     /// What each member guesses for a granule's number, in the same order.
     ghost answers: { Self → ℕ → List ℕ };
+
+    /// The same once a number and a reserve are told.
+    ghost answers_after: { Self → (number reserve : ℕ) → ℕ → List ℕ };
 
     /// How often it was told, modulo 256.
     ghost tells: { Self → ℕ };
@@ -37,6 +40,9 @@ impl Standings for Panel {
 
     ghost answers = { λ panel number.
         map (λ m. (Guesser-box m.guesser).guesses m.guesser.value number) panel.members.items };
+
+    ghost answers_after = { λ panel number reserve n.
+        map (λ m. (Guesser-box m.guesser).guesses_after m.guesser.value number reserve n) panel.members.items };
 
     ghost tells = { λ panel. panel.tells };
 }
@@ -102,12 +108,25 @@ impl Guesser for Panel {
         (map (λ m. m.score) panel.members.items)
         (map (λ m. (Guesser-box m.guesser).guesses m.guesser.value number) panel.members.items) };
 
+    // The same of the members that are left, each of which was told.
+    ghost guesses_after = { λ panel number reserve n. guess_after
+        ((panel.tells + 1) % 256)
+        (all_risen (map (λ m. m.score) panel.members.items)
+        (map (λ m. (Guesser-box m.guesser).guesses m.guesser.value number) panel.members.items) reserve)
+        (map (λ m. (Guesser-box m.guesser).guesses_after m.guesser.value number reserve n) panel.members.items) };
+
     fn tell(&mut self, number: GranuleNo, reserve: u32)
         ensures tells { let standings = ⟦<Panel as Standings>⟧ in
             standings.tells self.new ≡ (standings.tells self.old + 1) % 256 }
         ensures scores { let standings = ⟦<Panel as Standings>⟧ in
             let risen = all_risen (standings.scores self.old) (standings.answers self.old number) reserve in
             standings.scores self.new ≡ after_tell (standings.tells self.new) risen }
+        ensures answers { let standings = ⟦<Panel as Standings>⟧ in
+            let risen = all_risen (standings.scores self.old) (standings.answers self.old number) reserve in
+            (n : ℕ) → standings.answers self.new n
+            ≡ kept_answers (standings.tells self.new) risen (standings.answers_after self.old number reserve n) }
+        ensures after { let guesser = ⟦<Panel as Guesser>⟧ in
+            (n : ℕ) → guesser.guesses self.new n ≡ guesser.guesses_after self.old number reserve n }
     {
         tell_each(&mut self.members, number, reserve);
         self.tells = self.tells.wrapping_add(1);

@@ -100,3 +100,29 @@ fn members_are_told(rt: HostRuntime) -> Result<(), Fail> {
     assert_eq!(rt; panel.guess(next), 100);
     Ok(())
 }
+
+#[test]
+fn a_mean_as_a_member(rt: HostRuntime) -> Result<(), Fail> {
+    let next = GranuleNo::new(4).ok_or("no number")?;
+    let mean = Box::new(rt.alloc(), Mean::new())?;
+    let full = Box::new(rt.alloc(), Flat::new(4088))?;
+    let mut panel = panel_of(rt.alloc(), mean, full)?;
+
+    // Before these it guesses 0, 8, 10 and 7: it is told each once, and after its guess.
+    tell_all(&mut panel, &[8, 12, 1, 20]);
+    assert_eq!(rt; score_at(&panel, 0), Some(8 + 4 + 9 + 13));
+    assert_eq!(rt; panel.guess(next), 10);
+    Ok(())
+}
+
+#[test]
+fn the_first_member_of_ten_and_zero_is_dropped(rt: HostRuntime) -> Result<(), Fail> {
+    let next = GranuleNo::new(256).ok_or("no number")?;
+    let ten = Box::new(rt.alloc(), Flat::new(10))?;
+    let zero = Box::new(rt.alloc(), Flat::new(0))?;
+    let mut panel = panel_of(rt.alloc(), ten, zero)?;
+    tell_all(&mut panel, &[0; 256]);
+    assert_eq!(rt; panel.members(), 1);
+    assert_eq!(rt; panel.guess(next), 0);
+    Ok(())
+}
