@@ -6,3 +6,4 @@ pub mod Steps
 pub mod Bands
 pub mod Filterbank
 pub mod Rates
+pub mod Peaks
