@@ -1,4 +1,5 @@
 ghost use Rattle.std.specs.Prelude.{◌≡◌, ◌<◌, ◌≤◌, ◌+◌, ◌*◌, ◌^◌, ℕ, All, slice_index, slice_index_or, min, pos, unsigned_abs};
+ghost use Rattle.l3_base.specs.Amp.{IsAmp};
 ghost use Rattle.l3_base.specs.Spectrum.{IsLine};
 ghost use Rattle.l3_tables.specs.Bands.{edge_at};
 ghost use Rattle.l3_quant.specs.Quantiser.{scaled, steps_of};
@@ -15,6 +16,7 @@ pub(crate) fn finer_steps(amp: &Amp, band: usize) -> u32
     requires { band < 22 }
     ensures value { result ≡ 2 * slice_index amp.now band }
     ensures bound { result ≤ 6 }
+    ensures amp { IsAmp amp.now }
 {
     let finer = 2 * u32::from(amp.get(band.min(20)));
     if band < 21 { finer } else { 0 }
@@ -47,7 +49,13 @@ fn scale_band(lines: &[i32; 576], rate: usize, band: usize, h: u32, out: &mut [u
 }
 
 // All lines scaled, each by the quarter steps of its band.
-pub(crate) fn scale_bands(lines: &[i32; 576], rate: usize, amp: &Amp, gain: u8, out: &mut [u32; 576])
+pub(crate) fn scale_bands(
+    lines: &[i32; 576],
+    rate: usize,
+    amp: &Amp,
+    gain: u8,
+    out: &mut [u32; 576],
+)
     requires lines { All IsLine lines.now }
     requires rate { rate < 3 }
     ensures { (band k : ℕ) → band < 22 → edge_at rate band ≤ k → k < edge_at rate (band + 1) → slice_index out.new k ≡ min (scaled (unsigned_abs (slice_index_or lines.now k (pos 0))) (steps_of (band_gain amp.now (pos gain) band))) (2 ^ 30) }

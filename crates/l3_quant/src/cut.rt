@@ -107,7 +107,7 @@ fn write_first_counts(counts: &[u32; 16], from: usize, to: usize, out: &mut [u8;
     requires small { (j : ℕ) → j < 16 → slice_index counts.now j ≤ 15 }
     ensures value { (j : ℕ) → j < 16 → from + j < to → slice_index out.new (from + j) ≡ slice_index counts.now j }
     ensures before { (i : ℕ) → i < from → slice_index out.new i ≡ slice_index out.old i }
-    ensures behind { (i : ℕ) → to ≤ i → slice_index out.new i ≡ slice_index out.old i }
+    ensures behind { (i : ℕ) → min (from + 16) to ≤ i → slice_index out.new i ≡ slice_index out.old i }
 {
     for j in 0..(to - from).min(16) {
         out[from + j] = counts[j] as u8;
@@ -122,7 +122,6 @@ fn cut_band(lines: &[i32; 576], rate: usize, band: usize, limits: &[i32; 15], ou
     ensures value { (h : ℕ) → AreLimits h limits.now → (i : ℕ) → edge_at rate band ≤ i → i < edge_at rate (band + 1) → slice_index out.new i ≡ min (magnitude_at (unsigned_abs (slice_index_or lines.now i (pos 0))) h) 15 }
     ensures before { (i : ℕ) → i < edge_at rate band → slice_index out.new i ≡ slice_index out.old i }
     ensures behind { (i : ℕ) → edge_at rate (band + 1) ≤ i → slice_index out.new i ≡ slice_index out.old i }
-    ensures bound { ((i : ℕ) → slice_index out.old i ≤ 15) → (i : ℕ) → slice_index out.new i ≤ 15 }
 {
     let from = usize::from(edge(rate, band));
     let to = usize::from(edge(rate, band + 1));

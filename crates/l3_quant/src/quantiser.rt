@@ -69,13 +69,7 @@ pub fn all(spec: &Spectrum, gain: i16, out: &mut [i16; 576]) -> bool
 
 /// The same where each line is quantised at the gain of its band: `gain`, less 2 for each of the
 /// band's amplification.
-pub fn all_amp(
-    spec: &Spectrum,
-    rate: SampleRate,
-    amp: &Amp,
-    gain: u8,
-    out: &mut [i16; 576],
-) -> bool
+pub fn all_amp(spec: &Spectrum, rate: SampleRate, amp: &Amp, gain: u8, out: &mut [i16; 576]) -> bool
     ensures codable { OnTrue result (IsCodable (quantised_bands (band_edges rate) amp.now (pos gain) spec.now)) }
     ensures values { OnTrue result (out.new ≡ quantised_bands (band_edges rate) amp.now (pos gain) spec.now) }
     ensures bound { OnTrue result (All (λ q. unsigned_abs q ≤ 8191) out.new) }
