@@ -2,7 +2,7 @@
 use Rattle.std.proofs.Common.{◌≡◌, ℕ, ◌+◌, ◌-◌, ◌*◌, ◌<◌, ◌≤◌, true, Bool, ◌&&◌, leb, ltb, refl, sym, subst, arith, ◌/◌}
 use Rattle.std.proofs.lemmas.Bool.{and_parts, leb-true, ltb-true, agree_below_at}
 use Rattle.l3_quant.specs.Quantiser.{greatest_reached}
-use Rattle.l3_quant.specs.Thresholds.{threshold_at, first_at, middle_at}
+use Rattle.l3_quant.specs.Thresholds.{threshold_at, low_at, middle_at}
 use Rattle.l3_quant.proofs.Entries.{between_is}
 
 -- the block has one threshold at most above the one of n
@@ -22,14 +22,14 @@ tested low high n t =
     record { begins = leb-true _ _ p.0; ends = leb-true _ _ q.0; small = ltb-true _ _ q.1 }
 
 first_test : ℕ → Bool
-first_test b = block_test (1024 * b) (1024 * (b + 1)) (first_at b) && ltb (first_at b) 100
+first_test b = block_test (1024 * b) (1024 * (b + 1)) (low_at b) && ltb (low_at b) 100
 
-pub first_is : (b : ℕ) → b < 256 → IsBlock (1024 * b) (1024 * (b + 1)) (first_at b) × (first_at b < 100)
-unfolding first_test block_test first_at threshold_at
+pub first_is : (b : ℕ) → b < 256 → IsBlock (1024 * b) (1024 * (b + 1)) (low_at b) × (low_at b < 100)
+unfolding first_test block_test low_at threshold_at
 first_is b lt =
     let t : first_test b ≡ true = agree_below_at first_test (λ _. true) 256 b refl lt in
-    let p = and_parts (block_test (1024 * b) (1024 * (b + 1)) (first_at b)) (ltb (first_at b) 100) t in
-    (tested (1024 * b) (1024 * (b + 1)) (first_at b) p.0, ltb-true _ _ p.1)
+    let p = and_parts (block_test (1024 * b) (1024 * (b + 1)) (low_at b)) (ltb (low_at b) 100) t in
+    (tested (1024 * b) (1024 * (b + 1)) (low_at b) p.0, ltb-true _ _ p.1)
 
 -- of the blocks of 8192 from number 32 on
 middle_test : ℕ → Bool
@@ -52,7 +52,7 @@ block_next low high y n block from to over =
     between_is (n + 1) y (omega (arith, block.small)) over (omega (arith, ends))
 
 -- the block of a number
-pub first_of : (y n : ℕ) → y < 262144 → n ≡ first_at (y / 1024) → IsBlock (1024 * (y / 1024)) (1024 * (y / 1024 + 1)) n
+pub first_of : (y n : ℕ) → y < 262144 → n ≡ low_at (y / 1024) → IsBlock (1024 * (y / 1024)) (1024 * (y / 1024 + 1)) n
 first_of y n small same =
     let P : ℕ → Type 0 = λ m. IsBlock (1024 * (y / 1024)) (1024 * (y / 1024 + 1)) m in
     subst P (sym same) (first_is (y / 1024) (omega arith)).0

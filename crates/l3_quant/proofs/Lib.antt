@@ -5,5 +5,9 @@ pub mod Entries
 pub mod Blocks
 pub mod HighBlocks
 pub mod Codable
+pub mod BandLemmas
+pub mod FourThirds
 pub mod LimitLemmas
 pub mod PeakLemmas
+pub mod CutLemmas
+pub mod ValueLemmas

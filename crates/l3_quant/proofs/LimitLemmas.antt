@@ -1,5 +1,6 @@
 -- The greatest absolute values of lines that are quantised to at most 0 to 14, and the counts of those that a line is above.
 use Rattle.std.proofs.Common.{◌≡◌, ◌↔◌, ℕ, zero, suc, ◌+◌, ◌-◌, ◌*◌, ◌/◌, ◌%◌, ◌^◌, ◌<◌, ◌≤◌, ◌<ℤ◌, ◌≤ℤ◌, ◌⊎◌, Bool, true, ◌&&◌, leb, ltb, min, ℤ, pos, negsuc, List, [], ◌∷◌, length, get_or, arith, refl, sym, subst, ap, ◌∙◌, inl, inr}
+use Rattle.std.specs.Prelude.{unsigned_abs}
 use Rattle.std.proofs.lemmas.Bool.{agree_below_at, and_parts, cases_lt, leb-true, ltb-true}
 use Rattle.std.proofs.lemmas.Int.{ints}
 use Rattle.std.proofs.lemmas.Nat.{pow_pos}
@@ -8,7 +9,7 @@ use Rattle.l3_tables.specs.Steps.{quarter_at}
 use Rattle.l3_quant.specs.Quantiser.{greatest_reached, magnitude, magnitude_at, scaled}
 use Rattle.l3_quant.specs.Thresholds.{threshold_at}
 use Rattle.l3_quant.specs.Limits.{IsLimit, product_at}
-use Rattle.l3_quant.specs.Magnitudes.{cut_magnitudes}
+use Rattle.l3_quant.specs.Magnitudes.{cut_sizes}
 use Rattle.l3_quant.proofs.Entries.{above_is, below_is}
 use Rattle.l3_quant.proofs.ReachedLemmas.{greatest_reached-least}
 use Rattle.l3_quant.proofs.Scales.{factor}
@@ -127,13 +128,14 @@ filled_block P old new counts block before same written here i lt =
           subst R place (subst (P (16 * block + (i - 16 * block))) (sym (written (i - 16 * block) j)) (here (i - 16 * block) j)))
     ]
 
--- a list that has each line's value cut at 15
-pub cut_magnitudes-is : (gain : ℤ) (lines : List ℤ) (out : List ℕ) → length out ≡ length lines →
-    ((i : ℕ) → i < length lines → get_or out i 0 ≡ min (magnitude gain (get_or lines i (pos 0))) 15) → out ≡ cut_magnitudes gain lines
-cut_magnitudes-is gain [] [] long h = refl
-cut_magnitudes-is gain [] (n ∷ ns) long h = absurd (omega arith)
-cut_magnitudes-is gain (x ∷ xs) [] long h = absurd (omega arith)
-cut_magnitudes-is gain (x ∷ xs) (n ∷ ns) long h =
-    let rest : ns ≡ cut_magnitudes gain xs = cut_magnitudes-is gain xs ns (omega arith) (λ i lt. h (suc i) (omega arith)) in
-    let here : n ≡ min (magnitude gain x) 15 = h 0 (omega arith) in
-    ap (λ l. n ∷ l) rest ∙ ap (λ m. m ∷ cut_magnitudes gain xs) here
+-- a list that has each value's size cut at 15
+pub cut_sizes-is : (values : List ℤ) (out : List ℕ) → length out ≡ length values →
+    ((i : ℕ) → i < length values → get_or out i 0 ≡ min (unsigned_abs (get_or values i (pos 0))) 15) →
+    out ≡ cut_sizes values
+cut_sizes-is [] [] long h = refl
+cut_sizes-is [] (n ∷ ns) long h = absurd (omega arith)
+cut_sizes-is (x ∷ xs) [] long h = absurd (omega arith)
+cut_sizes-is (x ∷ xs) (n ∷ ns) long h =
+    let rest : ns ≡ cut_sizes xs = cut_sizes-is xs ns (omega arith) (λ i lt. h (suc i) (omega arith)) in
+    let here : n ≡ min (unsigned_abs x) 15 = h 0 (omega arith) in
+    ap (λ l. n ∷ l) rest ∙ ap (λ m. m ∷ cut_sizes xs) here

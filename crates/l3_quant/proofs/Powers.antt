@@ -50,13 +50,13 @@ great_passes y h =
     omega (arith, cube)
 
 -- a small y passes for 0 alone
-pub small_passes : (y n : ℕ) → y ≤ 64 → Passes y n → n ≡ 0
+pub small_passes : (y n : ℕ) → y ≤ 1024 → Passes y n → n ≡ 0
 small_passes y n le h =
     elim (cases_lt 0 n) [
       | inl lt ↦
           (let base : 19 ≤ 32 * n - 13 = omega arith in
           let power : 19 ^ 4 ≤ (32 * n - 13) ^ 4 = pow-le-pow_left base 4 in
-          let cube : y ^ 3 ≤ 64 ^ 3 = pow-le-pow_left le 3 in
+          let cube : y ^ 3 ≤ 1024 ^ 3 = pow-le-pow_left le 3 in
           absurd (omega (arith, power, cube, h)))
       | inr none ↦ omega arith
     ]

@@ -48,7 +48,7 @@ pub greatest_reached-rises : (y z : ℕ) → y ≤ z → greatest_reached y ≤ 
 greatest_reached-rises y z le =
     greatest_reached-least z (greatest_reached y) (passes_above y z (greatest_reached y) le (reaches-passes y (greatest_reached y) (greatest_reached-greatest y).reached))
 
-pub greatest_reached-small : (y : ℕ) → y ≤ 64 → greatest_reached y ≡ 0
+pub greatest_reached-small : (y : ℕ) → y ≤ 1024 → greatest_reached y ≡ 0
 greatest_reached-small y le = small_passes y (greatest_reached y) le (reaches-passes y (greatest_reached y) (greatest_reached-greatest y).reached)
 
 -- a number cut at 2^30 reaches the same as itself, cut at 8192

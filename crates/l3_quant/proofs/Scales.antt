@@ -107,13 +107,20 @@ scaled-steps x h (suc n) =
     subst P (let e : h + n + 1 ≡ h + suc n = omega arith in e) (let both : scaled x h ≤ scaled x (h + n + 1) = omega arith in both)
 
 -- 0 is scaled to 0
-pub scaled-zero : (h : ℕ) → scaled 0 h ≤ 64
+pub scaled-zero : (h : ℕ) → scaled 0 h ≤ 1024
 unfolding scaled
 scaled-zero h =
     let none : 0 * factor (h % 4) * 2 ^ (h / 4) ≡ 0 = ap (λ z. z * 2 ^ (h / 4)) (let z : 0 * factor (h % 4) ≡ 0 = omega arith in z) ∙ omega arith in
     rw none (omega arith)
 
--- at the highest gain a line is scaled to hardly anything
-pub scaled-top : (x : ℕ) → x < 2 ^ 29 → scaled x 3 ≤ 64
+-- at the highest gains a line is scaled to hardly anything
+scaled-nine : (x : ℕ) → x < 2 ^ 29 → scaled x 9 ≤ 1024
 unfolding scaled quarter_at
-scaled-top x lt = omega arith
+scaled-nine x lt = omega arith
+
+pub scaled-top : (x h : ℕ) → x < 2 ^ 29 → h ≤ 9 → scaled x h ≤ 1024
+scaled-top x h lt le =
+    let P : ℕ → Type 0 = λ k. scaled x h ≤ scaled x k in
+    let same : h + (9 - h) ≡ 9 = omega arith in
+    let most : scaled x h ≤ scaled x 9 = subst P same (scaled-steps x h (9 - h)) in
+    omega (arith, most, scaled-nine x lt)

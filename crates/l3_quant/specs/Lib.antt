@@ -1,6 +1,11 @@
 pub use Rattle.l3_base.specs.Spectrum
+pub use Rattle.l3_base.specs.Amp
+pub use Rattle.l3_tables.specs.Peaks
 pub mod Quantiser
+pub mod Amplified
 pub mod Gains
 pub mod Thresholds
 pub mod Magnitudes
 pub mod Limits
+pub mod Values
+pub mod Reconstruction

@@ -1,13 +1,17 @@
--- The quantised value of a line at a gain, and of a spectrum.
+-- The quantised value of a line at a gain, of lines at one gain, and which values can be coded.
 use Rattle.std.specs.Prelude.{◌≡◌, ◌⊎◌, ℕ, ◌+◌, ◌-◌, ◌*◌, ◌/◌, ◌%◌, ◌^◌, ◌≤◌, Bool, ◌==◌, ◌||◌, nat_le, List, map, All, ℤ, pos, negsuc, ◌-ℤ◌, unsigned_abs}
+use Rattle.std.specs.List.{list_all}
 use Rattle.l3_base.specs.Choosing.{greatest_passing}
 use Rattle.l3_tables.specs.Steps.{quarter_at}
 
--- quarter steps from a gain up to 258
+-- quarter steps from a gain up to 258, which for a gain of at most 258 is a number: 210, where the
+-- step is that of the lines' own unit, and 48 more, which are 12 doublings
 abbrev pub steps_of : ℤ → ℕ
 steps_of gain = unsigned_abs (pos 258 -ℤ gain)
 
--- x * 2^((210 - gain) / 4) / 2^12, rounded down, at h quarter steps below 258: whole steps by a power of 2, the others by the table, whose unit is 2^-30
+-- x * 2^((210 - gain) / 4) / 2^12, rounded down, at h quarter steps below 258: whole steps by a
+-- power of 2, the others by the table. The table's unit 2^-30 and the 2^12 make 2^42; with the 12
+-- doublings between 210 and 258 that is 2^54
 unfoldable pub scaled : ℕ → ℕ → ℕ
 scaled x h = x * unsigned_abs (quarter_at (h % 4)) * 2 ^ (h / 4) / 2 ^ 54
 
@@ -45,10 +49,14 @@ with_sign_of (negsuc x) n = pos 0 -ℤ pos n
 abbrev pub quantised : ℤ → ℤ → ℤ
 quantised gain x = with_sign_of x (magnitude gain x)
 
--- the quantised values of a spectrum's lines
+-- the quantised values of lines at one gain
 abbrev pub quantised_lines : ℤ → List ℤ → List ℤ
 quantised_lines gain lines = map (quantised gain) lines
 
--- each quantised value of the spectrum can be coded: it is at most 8191 either way
-abbrev pub IsCodable : ℤ → List ℤ → Type 0
-IsCodable gain lines = All (λ x. magnitude gain x ≤ 8191) lines
+-- quantised values can be coded: each is at most 8191 either way
+abbrev pub IsCodable : List ℤ → Type 0
+IsCodable values = All (λ q. unsigned_abs q ≤ 8191) values
+
+-- the same as a test
+abbrev pub is_codable : List ℤ → Bool
+is_codable values = list_all (λ q. nat_le (unsigned_abs q) 8191) values

@@ -13,8 +13,8 @@ unfoldable pub threshold_at : ℕ → ℕ
 threshold_at n = slice_index THRESHOLDS n
 
 -- what the first number of a block of 1024 reaches
-unfoldable pub first_at : ℕ → ℕ
-first_at block = slice_index FIRST block
+unfoldable pub low_at : ℕ → ℕ
+low_at block = slice_index FIRST block
 
 -- what the first number of a block of 8192 reaches
 unfoldable pub middle_at : ℕ → ℕ

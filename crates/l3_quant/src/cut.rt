@@ -1,12 +1,16 @@
 ghost use Rattle.std.specs.Prelude.{ℕ, ◌≡◌, ◌<◌, ◌≤◌, ◌<ℤ◌, ◌≤ℤ◌, ◌+◌, ◌^◌, pos, negsuc, unsigned_abs, min, All, length, replicate, slice_index, slice_index_or};
 ghost use Rattle.l3_base.specs.Spectrum.{IsLine};
 ghost use Rattle.l3_quant.specs.Quantiser.{magnitude_at};
-ghost use Rattle.l3_quant.specs.Magnitudes.{cut_magnitudes};
+ghost use Rattle.l3_tables.specs.Bands.{band_edges, edge_at};
+ghost use Rattle.l3_quant.specs.Amplified.{quantised_bands};
+ghost use Rattle.l3_quant.specs.Magnitudes.{cut_sizes};
 ghost use Rattle.l3_quant.specs.Limits.{AreLimits};
 
+use crate::bands::finer_steps;
 use crate::limits::limits;
 use crate::scale::steps;
-use l3_base::Spectrum;
+use l3_base::{Amp, SampleRate, Spectrum};
+use l3_tables::edge;
 
 // Room for 16 absolute values.
 #[inline(always)]
@@ -95,14 +99,54 @@ fn cut_lines(lines: &[i32; 576], limits: &[i32; 15], out: &mut [u8; 576])
     }
 }
 
+// Writes the first of 16 counts, as far as to the line `to`.
+#[inline(always)]
+fn write_first_counts(counts: &[u32; 16], from: usize, to: usize, out: &mut [u8; 576])
+    requires order { from < to }
+    requires within { to ≤ 576 }
+    requires small { (j : ℕ) → j < 16 → slice_index counts.now j ≤ 15 }
+    ensures value { (j : ℕ) → j < 16 → from + j < to → slice_index out.new (from + j) ≡ slice_index counts.now j }
+    ensures before { (i : ℕ) → i < from → slice_index out.new i ≡ slice_index out.old i }
+    ensures behind { (i : ℕ) → min (from + 16) to ≤ i → slice_index out.new i ≡ slice_index out.old i }
+{
+    for j in 0..(to - from).min(16) {
+        out[from + j] = counts[j] as u8;
+    }
+}
+
+// The same for the lines of one of the 21 bands that can be amplified, which end below line 560.
+fn cut_band(lines: &[i32; 576], rate: usize, band: usize, limits: &[i32; 15], out: &mut [u8; 576])
+    requires small { All IsLine lines.now }
+    requires rate { rate < 3 }
+    requires band { band < 21 }
+    ensures value { (h : ℕ) → AreLimits h limits.now → (i : ℕ) → edge_at rate band ≤ i → i < edge_at rate (band + 1) → slice_index out.new i ≡ min (magnitude_at (unsigned_abs (slice_index_or lines.now i (pos 0))) h) 15 }
+    ensures before { (i : ℕ) → i < edge_at rate band → slice_index out.new i ≡ slice_index out.old i }
+    ensures behind { (i : ℕ) → edge_at rate (band + 1) ≤ i → slice_index out.new i ≡ slice_index out.old i }
+{
+    let from = usize::from(edge(rate, band));
+    let to = usize::from(edge(rate, band + 1));
+    let mut at = from;
+    while at < to {
+        let counts = count_limits(&sizes(lines, at), limits);
+        write_first_counts(&counts, at, to, out);
+        at += 16;
+    }
+}
+
 /// Writes the absolute values of the quantised values of all lines to `out`, each cut at 15.
 ///
-/// Gain: `global_gain` of 0 to 255, or down to -64 where scale factors lower it.
-pub fn cut_values(spec: &Spectrum, gain: i16, out: &mut [u8; 576])
-    requires low { negsuc 63 ≤ℤ gain }
-    requires high { gain ≤ℤ pos 255 }
-    ensures values { out.new ≡ cut_magnitudes gain spec.now }
+/// Each line is quantised at the gain of its band: `gain`, less 2 for each of the amplification.
+pub fn cut_values(spec: &Spectrum, rate: SampleRate, amp: &Amp, gain: u8, out: &mut [u8; 576])
+    ensures values { out.new ≡ cut_sizes (quantised_bands (band_edges rate) amp.now (pos gain) spec.now) }
     ensures bound { All (λ n. n ≤ 15) out.new }
 {
-    cut_lines(spec.lines(), &limits(steps(gain)), out);
+    let h = steps(i16::from(gain));
+    let lines = spec.lines();
+    cut_lines(lines, &limits(h), out);
+    for band in 0..21 {
+        let finer = finer_steps(amp, band);
+        if finer > 0 {
+            cut_band(lines, rate.index(), band, &limits(h + finer), out);
+        }
+    }
 }

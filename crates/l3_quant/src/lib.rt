@@ -6,23 +6,29 @@
 //! the whole-number form and the rounding constant 13/32 are this project's own.
 #![tactic(auto)]
 
+mod bands;
 mod cut;
+mod four_thirds_table;
 mod gains;
 mod laws;
 mod limits;
 mod peaks;
-mod plain;
 mod quantiser;
 mod reached;
+mod reconstruction;
 mod scale;
 mod thresholds;
 
 pub use cut::cut_values;
-pub use gains::first_gain;
-pub use laws::{codable_gains, greatest_value, threshold_laws};
+pub use gains::{first_gain, first_gain_amp, first_gain_with};
+pub use laws::{
+    codable_gains, greatest_power, greatest_value, threshold_laws, without_amplification,
+};
 pub use peaks::{band_peaks, line_peaks};
-pub use plain::plain_line;
-pub use quantiser::{all, line};
+pub use quantiser::{all, all_amp, line};
+pub use reconstruction::reconstruct;
 
+#[cfg(test)]
+mod plain;
 #[cfg(test)]
 mod tests;

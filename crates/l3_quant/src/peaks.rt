@@ -4,20 +4,22 @@ ghost use Rattle.std.specs.List.{list_all};
 ghost use Rattle.l3_base.specs.declared.rate.SampleRate.{SampleRate};
 ghost use Rattle.l3_base.specs.Spectrum.{IsLine};
 ghost use Rattle.l3_tables.specs.Bands.{edge_at, band_edges};
-ghost use Rattle.l3_quant.specs.Quantiser.{magnitude, IsCodable};
-ghost use Rattle.l3_quant.specs.Magnitudes.{AreLinePeaks, ArePeaks};
+ghost use Rattle.l3_tables.specs.Peaks.{AreBandPeaks, IsPeak};
+ghost use Rattle.l3_quant.specs.Quantiser.{IsCodable};
+ghost use Rattle.l3_quant.specs.Amplified.{quantised_bands};
+ghost use Rattle.l3_quant.specs.Magnitudes.{AreLinePeaks};
 
+use crate::bands::band_steps;
 use crate::quantiser::{GREATEST, cut_magnitude};
-use crate::scale::steps;
-use l3_base::{SampleRate, Spectrum};
+use l3_base::{Amp, SampleRate, Spectrum};
 use l3_tables::edge;
 
 // The greatest absolute value.
 #[inline(always)]
-fn peak(lines: &[i32]) -> u32
+pub(crate) fn peak(lines: &[i32]) -> u32
     requires { All IsLine lines.now }
     ensures small { result < 2 ^ 29 }
-    ensures value { (n : ℕ) → list_all (λ x. nat_le (unsigned_abs x) n) lines.now ≡ nat_le result n }
+    ensures value { IsPeak lines.now result }
 {
     let mut peak = 0u32;
     for &x in lines {
@@ -32,7 +34,7 @@ fn band_peak(lines: &[i32; 576], rate: usize, band: usize) -> u32
     requires rate { rate < 3 }
     requires band { band < 22 }
     ensures small { result < 2 ^ 29 }
-    ensures value { (n : ℕ) → list_all (λ x. nat_le (unsigned_abs x) n) (slice_range lines.now (edge_at rate band) (edge_at rate (band + 1))) ≡ nat_le result n }
+    ensures value { IsPeak (slice_range lines.now (edge_at rate band) (edge_at rate (band + 1))) result }
 {
     let from = usize::from(edge(rate, band));
     let to = usize::from(edge(rate, band + 1));
@@ -47,7 +49,8 @@ fn no_peaks() -> [u32; 22]
     [0; 22]
 }
 
-/// The greatest absolute value of the lines of each band, below 2^29. It serves all gains.
+/// The greatest absolute value of the lines of each band, below 2^29. It serves all gains and
+/// amplifications.
 pub fn line_peaks(spec: &Spectrum, rate: SampleRate) -> [u32; 22]
     ensures { AreLinePeaks (band_edges rate) spec.now result }
 {
@@ -60,21 +63,20 @@ pub fn line_peaks(spec: &Spectrum, rate: SampleRate) -> [u32; 22]
     peaks
 }
 
-/// Writes the greatest absolute value of the quantised values of each band to `out`, or stops at the first that is above 8191; then nothing is promised of `out`.
+/// Writes the greatest absolute value of the quantised values of each band to `out`, or stops at
+/// the first that is above 8191; then nothing is promised of `out`.
 ///
-/// Lines: the greatest absolute value of the lines of each band, as `line_peaks` gives it. Gain: `global_gain` of 0 to 255, or down to -64 where scale factors lower it.
-pub fn band_peaks(lines: &[u32; 22], gain: i16, out: &mut [u16; 22]) -> bool
+/// Lines: the greatest absolute value of the lines of each band, as `line_peaks` gives it. Each
+/// band is quantised at `gain`, less 2 for each of its amplification.
+pub fn band_peaks(lines: &[u32; 22], amp: &Amp, gain: u8, out: &mut [u16; 22]) -> bool
     requires small { All (λ p. p < 2 ^ 29) lines.now }
-    requires low { negsuc 63 ≤ℤ gain }
-    requires high { gain ≤ℤ pos 255 }
-    ensures codable { OnTrue result ((rate : SampleRate) (spec : List ℤ) → AreLinePeaks (band_edges rate) spec lines.now → IsCodable gain spec) }
-    ensures values { OnTrue result ((rate : SampleRate) (spec : List ℤ) → AreLinePeaks (band_edges rate) spec lines.now → ArePeaks (band_edges rate) gain spec out.new) }
+    ensures codable { OnTrue result ((rate : SampleRate) (spec : List ℤ) → AreLinePeaks (band_edges rate) spec lines.now → IsCodable (quantised_bands (band_edges rate) amp.now (pos gain) spec)) }
+    ensures values { OnTrue result ((rate : SampleRate) (spec : List ℤ) → AreLinePeaks (band_edges rate) spec lines.now → AreBandPeaks (band_edges rate) (quantised_bands (band_edges rate) amp.now (pos gain) spec) out.new) }
     ensures bound { OnTrue result (All (λ n. n ≤ 8191) out.new) }
-    ensures above { OnFalse result ((rate : SampleRate) (spec : List ℤ) → AreLinePeaks (band_edges rate) spec lines.now → Any (λ x. 8191 < magnitude gain x) spec) }
+    ensures above { OnFalse result ((rate : SampleRate) (spec : List ℤ) → AreLinePeaks (band_edges rate) spec lines.now → Any (λ q. 8191 < unsigned_abs q) (quantised_bands (band_edges rate) amp.now (pos gain) spec)) }
 {
-    let h = steps(gain);
     for band in 0..22 {
-        let n = cut_magnitude(lines[band], h);
+        let n = cut_magnitude(lines[band], band_steps(amp, gain, band));
         if n > GREATEST {
             return false;
         }

@@ -43,7 +43,7 @@ fn halved(y: u32) -> u32
 }
 
 /// The same as `line`, with no table of thresholds: slow and plain.
-pub fn plain_line(x: i32, gain: i16) -> Option<u16>
+pub(crate) fn plain_line(x: i32, gain: i16) -> Option<u16>
     requires small { IsLine x }
     requires low { negsuc 63 ≤ℤ gain }
     requires high { gain ≤ℤ pos 255 }

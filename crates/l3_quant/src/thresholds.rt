@@ -1,5 +1,5 @@
 ghost use Rattle.std.specs.Prelude.{◌≡◌, ◌<◌, ◌≤◌};
-ghost use Rattle.l3_quant.specs.Thresholds.{threshold_at, first_at, middle_at, high_at};
+ghost use Rattle.l3_quant.specs.Thresholds.{threshold_at, low_at, middle_at, high_at};
 
 /// For each value of 0 to 8192 the least scaled line that reaches it. This project's own, after its rounding constant 13/32.
 pub static THRESHOLDS: [u32; 8193] = [
@@ -1215,7 +1215,7 @@ pub(crate) fn threshold(n: usize) -> u32
 #[inline(always)]
 pub(crate) fn first(block: usize) -> u8
     requires { block < 256 }
-    ensures value { result ≡ first_at block }
+    ensures value { result ≡ low_at block }
     ensures small { result < 100 }
 {
     FIRST[block]
