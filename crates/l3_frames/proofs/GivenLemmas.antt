@@ -12,7 +12,7 @@ use Rattle.l3_stream.specs.Tape.{heads_of, tape_from, joined}
 use Rattle.l3_stream.proofs.Tape.{slots-suc}
 use Rattle.l3_stream.proofs.Header.{slots-grow}
 use Rattle.l3_frames.specs.Writing.{Writing, first_of, open_from, owed}
-use Rattle.l3_frames.specs.Pending.{given_bytes, reached_bits, IsSound, IsShort, AreSettled}
+use Rattle.l3_frames.specs.Pending.{given_bytes, reached_bits, IsWriting, IsShort, AreSettled}
 use Rattle.l3_frames.proofs.SlotLemmas.{slot_range, slots-spread}
 use Rattle.l3_frames.proofs.JoinedLemmas.{joined-append, joined-take}
 use Rattle.l3_frames.proofs.TapeLemmas.{zeros_further, bits_of-split, packed_split}
@@ -36,7 +36,7 @@ record HasNumbers (w : Writing) (k bytes : ℕ) (now : Writing) : Type 0 where
   inside : bytes ≤ length w.slots
   far : given_bytes w + bytes ≤ slots_before w.settings w.frames - 511
 
-has_numbers : (w now : Writing) (k bytes : ℕ) → IsSound w → AreSettledIn w k bytes → IsGiven w k bytes now → HasNumbers w k bytes now
+has_numbers : (w now : Writing) (k bytes : ℕ) → IsWriting w → AreSettledIn w k bytes → IsGiven w k bytes now → HasNumbers w k bytes now
 has_numbers w now k bytes sound settled is =
     let heads = sound.heads in
     let slots = sound.slots in
@@ -54,7 +54,7 @@ has_numbers w now k bytes sound settled is =
       far = omega arith;
     }
 
-pub given_is_sound : (w now : Writing) (k bytes : ℕ) → IsSound w → AreSettledIn w k bytes → IsGiven w k bytes now → IsSound now
+pub given_is_sound : (w now : Writing) (k bytes : ℕ) → IsWriting w → AreSettledIn w k bytes → IsGiven w k bytes now → IsWriting now
 given_is_sound w now k bytes sound settled is =
     let numbers = has_numbers w now k bytes sound settled is in
     let given = numbers.given in
@@ -83,7 +83,7 @@ given_is_sound w now k bytes sound settled is =
       near = omega arith;
     }
 
-pub given_is_short : (w now : Writing) (k bytes : ℕ) → IsSound w → AreSettledIn w k bytes → IsGiven w k bytes now → IsShort now
+pub given_is_short : (w now : Writing) (k bytes : ℕ) → IsWriting w → AreSettledIn w k bytes → IsGiven w k bytes now → IsShort now
 given_is_short w now k bytes sound settled is =
     let numbers = has_numbers w now k bytes sound settled is in
     let inside = numbers.inside in
@@ -110,7 +110,7 @@ given_is_short w now k bytes sound settled is =
     ]
 
 -- the frames given, and what is owed then
-pub given_owes : (w now : Writing) (k bytes : ℕ) (fs : List ChosenFrame) → IsSound w → AreSettledIn w k bytes → IsGiven w k bytes now →
+pub given_owes : (w now : Writing) (k bytes : ℕ) (fs : List ChosenFrame) → IsWriting w → AreSettledIn w k bytes → IsGiven w k bytes now →
     owed w fs ≡ joined w.settings (first_of w) (take k w.heads) w.slots ++ owed now fs
 given_owes w now k bytes fs sound settled is =
     let st = w.settings in
@@ -146,7 +146,7 @@ given_owes w now k bytes fs sound settled is =
     ∙ ap (λ l. joined st (first_of w) (take k w.heads) w.slots ++ l) same))))
 
 -- all that is pending
-pub finished_owes : (w : Writing) → IsSound w → owed w [] ≡ joined w.settings (first_of w) w.heads w.slots
+pub finished_owes : (w : Writing) → IsWriting w → owed w [] ≡ joined w.settings (first_of w) w.heads w.slots
 finished_owes w sound =
     let st = w.settings in
     let n = w.frames in

@@ -10,11 +10,12 @@ use Rattle.l3_stream.specs.Tape.{start_of, end_of, head_of, heads_of, FitsAt, ta
 use Rattle.l3_stream.proofs.Tape.{slots-suc}
 use Rattle.l3_frames.specs.Writing.{Writing, first_of, open_from, owed, FitBehind}
 use Rattle.l3_frames.specs.Laying.{laid_over}
-use Rattle.l3_frames.specs.Pending.{given_bytes, reached_bits, IsSound, IsNoted}
+use Rattle.l3_frames.specs.Pending.{given_bytes, reached_bits, IsWriting, IsPushed}
 use Rattle.l3_bits.proofs.Bytes.{bits_of-append}
 use Rattle.l3_frames.proofs.TapeLemmas.{start-is, tape-later, zeros_further, zeros_longer, take_zeros, laid_over-length, laid_over-drop, laid_over-take, bits_of-zeros}
 
--- where a frame's codes are laid over the slots that are not given yet, and what stands there before
+-- where a frame's codes are laid over the slots that are not given yet, and what stands there
+-- before
 pub record HasPlace (w : Writing) (f : ChosenFrame) : Type 0 where
   pub at : ℕ
   pub is : at ≡ start_of w.settings w.frames f.begin - 8 * given_bytes w
@@ -27,7 +28,7 @@ pub record HasPlace (w : Writing) (f : ChosenFrame) : Type 0 where
   pub opened : 8 * given_bytes w ≤ open_from w.settings w.frames w.end
   pub fits : at + length (code_bits w.settings f) ≤ 8 * (length w.slots + slot_bytes_of w.settings w.frames)
 
-pub has_place : (w : Writing) (f : ChosenFrame) → IsSound w → FitsAt w.settings w.frames w.end f → HasPlace w f
+pub has_place : (w : Writing) (f : ChosenFrame) → IsWriting w → FitsAt w.settings w.frames w.end f → HasPlace w f
 has_place w f sound fit =
     let start = start-is w.settings w.frames f.begin in
     let slots = sound.slots in
@@ -59,7 +60,7 @@ pub record IsLonger (w : Writing) : Type 0 where
   pub parts : with_slot w ≡ bits_of w.slots ++ replicate (8 * slot_bytes_of w.settings w.frames) false
   pub zeros : drop (reached_bits w) (with_slot w) ≡ replicate (8 * (length w.slots + slot_bytes_of w.settings w.frames) - reached_bits w) false
 
-pub is_longer : (w : Writing) → IsSound w → IsLonger w
+pub is_longer : (w : Writing) → IsWriting w → IsLonger w
 is_longer w sound =
     let slot = slot_bytes_of w.settings w.frames in
     let size : length (bits_of w.slots) ≡ 8 * length w.slots = length-bits_of w.slots in
@@ -75,17 +76,17 @@ is_longer w sound =
           ∙ (zeros_longer (bits_of w.slots) (reached_bits w) (8 * length w.slots) (8 * slot) size within sound.zeros ∙ ap (λ k. replicate k false) sum);
     }
 
-same_first : (w now : Writing) (f : ChosenFrame) → IsSound w → IsNoted w f now → first_of now ≡ first_of w
+same_first : (w now : Writing) (f : ChosenFrame) → IsWriting w → IsPushed w f now → first_of now ≡ first_of w
 same_first w now f sound noted =
     let heads = sound.heads in
     let frames = noted.frames in
     omega (arith, ap length noted.heads, length-append w.heads (head_of w.settings w.frames f ∷ []))
 
-pub same_given : (w now : Writing) (f : ChosenFrame) → IsSound w → IsNoted w f now → given_bytes now ≡ given_bytes w
+pub same_given : (w now : Writing) (f : ChosenFrame) → IsWriting w → IsPushed w f now → given_bytes now ≡ given_bytes w
 same_given w now f sound noted =
     ap (λ st. slots_before st (first_of now)) noted.settings ∙ ap (slots_before w.settings) (same_first w now f sound noted)
 
-size_noted : (w now : Writing) (f : ChosenFrame) → IsSound w → FitsAt w.settings w.frames w.end f → IsNoted w f now → length now.slots ≡ length w.slots + slot_bytes_of w.settings w.frames
+size_noted : (w now : Writing) (f : ChosenFrame) → IsWriting w → FitsAt w.settings w.frames w.end f → IsPushed w f now → length now.slots ≡ length w.slots + slot_bytes_of w.settings w.frames
 size_noted w now f sound fit noted =
     let place = has_place w f sound fit in
     let longer = is_longer w sound in
@@ -94,15 +95,15 @@ size_noted w now f sound fit noted =
     let inside : place.at + length (code_bits w.settings f) ≤ length (with_slot w) = omega arith in
     omega (arith, length-bits_of now.slots, ap length noted.slots, ap (λ k. length (laid_over k (code_bits w.settings f) (with_slot w))) (sym place.is), laid_over-length place.at (code_bits w.settings f) (with_slot w) inside)
 
-end_is : (w now : Writing) (f : ChosenFrame) → IsSound w → FitsAt w.settings w.frames w.end f → IsNoted w f now → 8 * given_bytes w + (start_of w.settings w.frames f.begin - 8 * given_bytes w + length (code_bits w.settings f)) ≡ now.end
+end_is : (w now : Writing) (f : ChosenFrame) → IsWriting w → FitsAt w.settings w.frames w.end f → IsPushed w f now → 8 * given_bytes w + (start_of w.settings w.frames f.begin - 8 * given_bytes w + length (code_bits w.settings f)) ≡ now.end
 end_is w now f sound fit noted = let place = has_place w f sound fit in let start = place.start in let is = place.is in let end = noted.end in omega arith
 
-next_slots : (w now : Writing) (f : ChosenFrame) → IsNoted w f now → slots_before now.settings now.frames ≡ slots_before w.settings w.frames + slot_bytes_of w.settings w.frames
+next_slots : (w now : Writing) (f : ChosenFrame) → IsPushed w f now → slots_before now.settings now.frames ≡ slots_before w.settings w.frames + slot_bytes_of w.settings w.frames
 next_slots w now f noted =
     ap (λ st. slots_before st now.frames) noted.settings
     ∙ (ap (slots_before w.settings) (noted.frames ∙ add-one w.frames) ∙ slots-suc w.settings w.frames)
 
-pub noted_is_sound : (w now : Writing) (f : ChosenFrame) → IsSound w → FitsAt w.settings w.frames w.end f → IsNoted w f now → IsSound now
+pub noted_is_sound : (w now : Writing) (f : ChosenFrame) → IsWriting w → FitsAt w.settings w.frames w.end f → IsPushed w f now → IsWriting now
 noted_is_sound w now f sound fit noted =
     let place = has_place w f sound fit in
     let longer = is_longer w sound in
@@ -135,7 +136,7 @@ noted_is_sound w now f sound fit noted =
     }
 
 -- the tape is the same, whether the frame is still to come or was laid
-same_tape : (w now : Writing) (f : ChosenFrame) (fs : List ChosenFrame) → IsSound w → FitsAt w.settings w.frames w.end f → IsNoted w f now → FitBehind w f fs →
+same_tape : (w now : Writing) (f : ChosenFrame) (fs : List ChosenFrame) → IsWriting w → FitsAt w.settings w.frames w.end f → IsPushed w f now → FitBehind w f fs →
     take (open_from w.settings w.frames w.end - 8 * given_bytes w) (bits_of w.slots) ++ tape_from w.settings w.frames (open_from w.settings w.frames w.end) (f ∷ fs)
     ≡ take (open_from w.settings (suc w.frames) (end_of w.settings w.frames f) - 8 * given_bytes w) (bits_of now.slots) ++ tape_from w.settings (suc w.frames) (open_from w.settings (suc w.frames) (end_of w.settings w.frames f)) fs
 same_tape w now f fs sound fit noted behind =
@@ -188,7 +189,7 @@ same_tape w now f fs sound fit noted behind =
     ∙ (ap (λ l. take at (bits_of w.slots) ++ l) (sym (append_assoc code gone tail))
     ∙ (sym (append_assoc (take at (bits_of w.slots)) (code ++ gone) tail) ∙ ap (λ l. l ++ tail) (sym now_front)))))
 
-pub noted_owes : (w now : Writing) (f : ChosenFrame) (fs : List ChosenFrame) → IsSound w → FitsAt w.settings w.frames w.end f → IsNoted w f now → FitBehind w f fs →
+pub noted_owes : (w now : Writing) (f : ChosenFrame) (fs : List ChosenFrame) → IsWriting w → FitsAt w.settings w.frames w.end f → IsPushed w f now → FitBehind w f fs →
     owed w (f ∷ fs) ≡ owed now fs
 noted_owes w now f fs sound fit noted behind =
     let st = w.settings in

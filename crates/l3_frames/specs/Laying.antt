@@ -1,4 +1,4 @@
--- Codes laid over the bits of the tape.
+-- Codes laid over the bits of the tape. Only the inside of this crate speaks of these.
 use Rattle.std.specs.Prelude.{ℕ, ◌+◌, Bool, List, [], ◌∷◌, ◌++◌, length, take, drop}
 use Rattle.l3_base.specs.declared.settings.Settings.{Settings}
 use Rattle.l3_base.specs.declared.rate.Channels.{Channels}

@@ -1,4 +1,5 @@
-//! The main data of a frame: the codes of its units, laid over the bits of the tape (ISO/IEC 11172-3, 2.4).
+//! The main data of a frame: the codes of its units, laid over the bits of the tape
+//! (ISO/IEC 11172-3, 2.4).
 
 ghost use Rattle.std.specs.Prelude.{◌≡◌, ◌+◌, ◌*◌, ◌<◌, ◌≤◌, ◌^◌, ◌++◌, length, nat_lt, if◌then◌else◌, All};
 ghost use Rattle.l3_bits.specs.Bits.{bits_of, digits};
@@ -53,7 +54,8 @@ fn write_unit(settings: &Settings, unit: &Unit, out: &mut [u8], at: u64) -> u64
     write_quads(unit.quad, unit.quads, unit.quad_lines(), out, middle)
 }
 
-// Lays the codes of a unit's pairs, and answers with the place behind them. `lines` are those of the pairs.
+// Lays the codes of a unit's pairs, and answers with the place behind them. `lines` are those of
+// the pairs.
 fn write_pairs(settings: &Settings, unit: &Unit, lines: &[i16], out: &mut [u8], at: u64) -> u64
     requires fields { HasFields unit.now }
     requires held { PairsHold (table_at settings.now unit.now) 0 lines.now }
@@ -72,7 +74,8 @@ fn write_pairs(settings: &Settings, unit: &Unit, lines: &[i16], out: &mut [u8], 
     place
 }
 
-// Lays the codes of so many quadruples, and answers with the place behind them. `lines` are those of the quadruples.
+// Lays the codes of so many quadruples, and answers with the place behind them. `lines` are those
+// of the quadruples.
 fn write_quads(table: QuadTable, count: u16, lines: &[i16], out: &mut [u8], at: u64) -> u64
     requires held { QuadsHold lines.now }
     requires whole { length lines.now ≡ 4 * count }

@@ -1,11 +1,12 @@
-//! The frames that are not given yet: their heads, at most 10 at once, and the bytes of the tape in their slots.
+//! The frames that are not given yet: their heads, at most 10 at once, and the bytes of the tape in
+//! their slots.
 
 ghost use Rattle.std.specs.Prelude.{◌≡◌, ◌+◌, ◌-◌, ◌≤◌, ◌^◌, ◌++◌, [], false, length, drop, OnOk, OnErr};
 ghost use Rattle.l3_base.specs.Lengths.{slots_before};
 ghost use Rattle.l3_io.specs.Causes.{HasCause};
 ghost use Rattle.l3_io.specs.Taken.{Writes};
 ghost use Rattle.l3_stream.specs.Tape.{FitsAt, joined};
-ghost use Rattle.l3_frames.specs.Pending.{AreSettled, Gives, GivesPart, IsKept, IsNoted, IsShort, writing_of};
+ghost use Rattle.l3_frames.specs.Pending.{AreSettled, Gives, GivesPart, IsPending, IsPushed, IsShort, writing_of};
 
 use crate::head::Head;
 use crate::slots::Slots;
@@ -46,13 +47,14 @@ pub(crate) fn nothing_pending(settings: Settings) -> Pending
     }
 }
 
-// Notes a frame that fits: its head, its slot, and its codes over the bits from where its main data begins.
+// Notes a frame that fits: its head, its slot, and its codes over the bits from where its main data
+// begins.
 pub(crate) fn note(pending: &mut Pending, frame: &ChosenFrame)
-    requires kept { IsKept pending.old }
+    requires kept { IsPending pending.old }
     requires short { IsShort (writing_of pending.old false) }
     requires count { pending.old.frames ≤ 2 ^ 32 }
     requires fits { FitsAt pending.old.settings pending.old.frames pending.old.end frame.now }
-    ensures noted { IsNoted (writing_of pending.old false) frame.now (writing_of pending.new false) }
+    ensures noted { IsPushed (writing_of pending.old false) frame.now (writing_of pending.new false) }
     ensures before { pending.new.before ≡ slots_before pending.new.settings pending.new.frames }
 {
     let slot = pending.settings.slot_bytes(pending.frames);
@@ -68,7 +70,8 @@ pub(crate) fn note(pending: &mut Pending, frame: &ChosenFrame)
     pending.frames += 1;
 }
 
-// How many of `count` frames from frame `first` on are settled, and their slot bytes: no later frame's main data reaches into these.
+// How many of `count` frames from frame `first` on are settled, and their slot bytes: no later
+// frame's main data reaches into these.
 // `length` are the slot bytes of all.
 fn settled(settings: &Settings, first: u64, count: usize, length: usize) -> (usize, usize)
     requires numbers { first + count ≤ 2 ^ 32 + 1 }
@@ -132,10 +135,10 @@ fn forget(heads: &mut ArrayVec<Head, 12>, count: usize)
 
 // Gives the frames that are settled, and forgets them, also where a write fails.
 pub(crate) fn give_settled<K: Sink>(pending: &mut Pending, sink: &mut K) -> Result<(), WriteFault>
-    requires kept { IsKept pending.old }
+    requires kept { IsPending pending.old }
     ensures ok { OnOk result (Gives (K.taken sink.old) (K.taken sink.new) (writing_of pending.old false) (writing_of pending.new false)) }
     ensures front { OnErr result (GivesPart (K.taken sink.old) (K.taken sink.new) (writing_of pending.old false)) }
-    ensures kept { IsKept pending.new }
+    ensures kept { IsPending pending.new }
     ensures short { IsShort (writing_of pending.new false) }
     ensures settings { pending.new.settings ≡ pending.old.settings }
     ensures frames { pending.new.frames ≡ pending.old.frames }

@@ -10,7 +10,8 @@ use l3_base::Settings;
 use l3_stream::ChosenFrame;
 use std::marker::Model;
 
-// Bytes that may be there at once: 510, and the slots of the oldest and of the newest frame, each of at most 1420.
+// Bytes that may be there at once: 510, and the slots of the oldest and of the newest frame, each
+// of at most 1420.
 pub(crate) const SLOTS_LIMIT: usize = 510 + 2 * 1420;
 
 // The bytes of the tape from a slot on.

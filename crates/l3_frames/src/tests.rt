@@ -77,7 +77,8 @@ fn write_frames(
 
 #[test]
 fn silent_frames(rt: HostRuntime) -> Result<(), Fail> {
-    // From this place on stand these bytes: the header of a frame, and its begin in the 9 bits after it.
+    // From this place on stand these bytes: the header of a frame, and its begin in the 9 bits
+    // after it.
     let common = [
         (0, [0xFF, 0xFB, 0x90, 0xC0, 0x00, 0x00]),
         (417, [0xFF, 0xFB, 0x92, 0xC0, 0xC6, 0x00]),
@@ -132,7 +133,8 @@ fn two_frames_share_a_slot(rt: HostRuntime) -> Result<(), Fail> {
     );
     assert_eq!(rt; sink.bytes().len(), 835);
 
-    // Header, main_data_begin and the first unit's fields; the codes 010 and 011, each from a whole byte on, and zeros.
+    // Header, main_data_begin and the first unit's fields; the codes 010 and 011, each from a whole
+    // byte on, and zeros.
     for (at, piece) in [
         (0, [0xFF, 0xFB, 0x90, 0xC0, 0, 0, 0, 12, 2, 0, 0, 0x80]),
         (21, [0x40, 0x60, 0, 0, 0, 0, 0, 0, 0, 0, 0, 0]),

@@ -5,7 +5,7 @@ ghost use Rattle.l3_io.specs.Taken.{Writes};
 ghost use Rattle.l3_stream.specs.declared.unit.ChosenFrame.{ChosenFrame};
 ghost use Rattle.l3_stream.specs.Tape.{FitsAt, end_of, stream_of};
 ghost use Rattle.l3_frames.specs.Writing.{owed};
-ghost use Rattle.l3_frames.specs.Pending.{IsKept, writing_of};
+ghost use Rattle.l3_frames.specs.Pending.{IsPending, writing_of};
 
 use crate::pending::{BEGIN_LIMIT, Pending, give, give_settled, note, nothing_pending};
 use l3_base::{Settings, WriteFault};
@@ -15,8 +15,8 @@ use std::marker::Model;
 
 /// Takes frames in order, and gives the bytes that they spell to a sink.
 ///
-/// A frame's main data begins up to 511 bytes before its own slot, so the slots of the last frames are still open: at most 9 frames
-/// are pending after a push. No call takes memory.
+/// A frame's main data begins up to 511 bytes before its own slot, so the slots of the last frames
+/// are still open: at most 9 frames are pending after a push. No call takes memory.
 #[derive(Drop)]
 pub struct FrameWriter {
     pending: Pending,
@@ -26,13 +26,13 @@ pub struct FrameWriter {
 impl Model for FrameWriter {
     ghost use Rattle.std.specs.Prelude.{false};
     ghost use Rattle.l3_frames.specs.Writing.{Writing};
-    ghost use Rattle.l3_frames.specs.Pending.{IsKept, IsShort, writing_of};
+    ghost use Rattle.l3_frames.specs.Pending.{IsPending, IsShort, writing_of};
 
     ghost Value = { Writing };
 
     ghost view = { λ w. writing_of w.pending w.failed };
 
-    ghost invariant = { λ w. IsKept w.pending × IsShort (writing_of w.pending false) };
+    ghost invariant = { λ w. IsPending w.pending × IsShort (writing_of w.pending false) };
 }
 
 impl FrameWriter {
@@ -56,8 +56,9 @@ impl FrameWriter {
         self.failed
     }
 
-    /// Whether the frame may be pushed next: it is coded, its main data begins at most 511 bytes before its own slot, within the tape
-    /// so far and not before the end of the codes so far, and its codes end within its own slot.
+    /// Whether the frame may be pushed next: it is coded, its main data begins at most 511 bytes
+    /// before its own slot, within the tape so far and not before the end of the codes so far, and
+    /// its codes end within its own slot.
     pub fn fits(&self, frame: &ChosenFrame) -> bool
         requires { self.now.frames ≤ 2 ^ 32 }
         ensures fits { result ≡ true → FitsAt self.now.settings self.now.frames self.now.end frame.now }
@@ -66,7 +67,8 @@ impl FrameWriter {
         fits_behind(&self.pending, frame)
     }
 
-    /// Takes the next frame, and gives the frames that no later one's main data can reach into, each whole.
+    /// Takes the next frame, and gives the frames that no later one's main data can reach into,
+    /// each whole.
     ///
     /// Errors: a write of the sink failed, or took nothing. Then no more may be pushed.
     pub fn push<K: Sink>(&mut self, frame: &ChosenFrame, sink: &mut K) -> Result<(), WriteFault>
@@ -103,7 +105,7 @@ impl FrameWriter {
 
 // Whether the frame fits behind those that were pushed.
 fn fits_behind(pending: &Pending, frame: &ChosenFrame) -> bool
-    requires kept { IsKept pending.now }
+    requires kept { IsPending pending.now }
     requires count { pending.now.frames ≤ 2 ^ 32 }
     ensures fits { result ≡ true → FitsAt pending.now.settings pending.now.frames pending.now.end frame.now }
     ensures refused { result ≡ false → FitsAt pending.now.settings pending.now.frames pending.now.end frame.now → ⊥ }
@@ -120,7 +122,7 @@ fn fits_behind(pending: &Pending, frame: &ChosenFrame) -> bool
 
 // Gives all frames that are pending.
 fn give_all<K: Sink>(pending: &Pending, sink: &mut K) -> Result<(), WriteFault>
-    requires { IsKept pending.now }
+    requires { IsPending pending.now }
     ensures bytes { Writes (K.taken sink.old) (K.taken sink.new) result (owed (writing_of pending.now false) []) }
     ensures cause { HasCause (K.faults sink.old) (K.faults sink.new) result }
 {

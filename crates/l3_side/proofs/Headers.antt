@@ -5,7 +5,6 @@ use Rattle.std.proofs.lemmas.Bool.{lt-ltb, le-ltb}
 use Rattle.std.proofs.lemmas.List.{append-nil, take_all}
 use Rattle.l3_base.specs.declared.settings.Settings.{Settings}
 use Rattle.l3_base.specs.declared.rate.Rate.{Rate}
-use Rattle.l3_base.specs.declared.rate.Rate.TheVariants.{K32, K40, K48, K56, K64, K80, K96, K112, K128, K160, K192, K224, K256, K320}
 use Rattle.l3_base.specs.declared.rate.SampleRate.{SampleRate}
 use Rattle.l3_base.specs.declared.rate.SampleRate.TheVariants.{Hz44100, Hz48000, Hz32000}
 use Rattle.l3_base.specs.declared.rate.Channels.{Channels}
@@ -19,7 +18,7 @@ use Rattle.l3_bits.proofs.Places.{length-bits_of}
 use Rattle.l3_bits.proofs.Bytes.{number_of-digits}
 use Rattle.l3_stream.specs.Fields.{FieldsFit}
 use Rattle.l3_stream.specs.Header.{header_at, header_from, rate_from, hertz_from}
-use Rattle.l3_stream.proofs.Header.{rate_is, hertz_is, headers_are_there, headers_are_found}
+use Rattle.l3_stream.proofs.Header.{is_rate, rate_is, hertz_is, headers_are_there, headers_are_found}
 use Rattle.l3_side.specs.Numbers.{HasHeaderFields}
 use Rattle.l3_side.proofs.Numbers.{number_in, number_in-digits, number_of-spelled}
 
@@ -27,22 +26,6 @@ use Rattle.l3_side.proofs.Numbers.{number_in, number_in-digits, number_of-spelle
 pub padded-is : (base long least : ℕ) (padded : Bool) → base ≡ least → long ≡ least + (if padded then 1 else 0) → nat_lt base long ≡ padded
 padded-is base long least true is_base is_long = lt-ltb base long (omega arith)
 padded-is base long least false is_base is_long = le-ltb base long (omega arith)
-
-index_of-small : (r : Rate) → index_of r < 2 ^ 4
-index_of-small K32 = lit< tt
-index_of-small K40 = lit< tt
-index_of-small K48 = lit< tt
-index_of-small K56 = lit< tt
-index_of-small K64 = lit< tt
-index_of-small K80 = lit< tt
-index_of-small K96 = lit< tt
-index_of-small K112 = lit< tt
-index_of-small K128 = lit< tt
-index_of-small K160 = lit< tt
-index_of-small K192 = lit< tt
-index_of-small K224 = lit< tt
-index_of-small K256 = lit< tt
-index_of-small K320 = lit< tt
 
 hertz_index_of-small : (s : SampleRate) → hertz_index_of s < 2 ^ 2
 hertz_index_of-small Hz44100 = lit< tt
@@ -70,7 +53,7 @@ abbrev header_values : Settings → Bool → List ℕ
 header_values st padded = 4095 ∷ 1 ∷ 1 ∷ 1 ∷ index_of st.rate ∷ hertz_index_of st.sample_rate ∷ padding padded ∷ 0 ∷ mode_of st.channels false ∷ 0 ∷ 0 ∷ 0 ∷ 0 ∷ []
 
 values_fit : (st : Settings) (padded : Bool) → FieldsFit header_widths (header_values st padded)
-values_fit st padded = (lit< tt, (lit< tt, (lit< tt, (lit< tt, (index_of-small st.rate, (hertz_index_of-small st.sample_rate, (padding-small padded, (lit< tt, (mode_of-small st.channels, (lit< tt, (lit< tt, (lit< tt, (lit< tt, tt)))))))))))))
+values_fit st padded = (lit< tt, (lit< tt, (lit< tt, (lit< tt, ((is_rate st.rate).index, (hertz_index_of-small st.sample_rate, (padding-small padded, (lit< tt, (mode_of-small st.channels, (lit< tt, (lit< tt, (lit< tt, (lit< tt, tt)))))))))))))
 
 -- a header as a number
 pub header_of : ℕ → ℕ → ℕ → ℕ → ℕ
@@ -139,7 +122,7 @@ pub record ReadsFields (number : ℕ) (st : Settings) (padded : Bool) : Type 0 w
 pub fields_there : (number : ℕ) (st : Settings) (padded : Bool) → number ≡ header_of (index_of st.rate) (hertz_index_of st.sample_rate) (padding padded) (mode_of st.channels false) → ReadsFields number st padded
 fields_there number st padded is =
     let all = field_values (index_of st.rate) (hertz_index_of st.sample_rate) (padding padded) (mode_of st.channels false)
-    (index_of-small st.rate) (hertz_index_of-small st.sample_rate) (padding-small padded) (mode_of-small st.channels) in
+    ((is_rate st.rate).index) (hertz_index_of-small st.sample_rate) (padding-small padded) (mode_of-small st.channels) in
     record {
       settings = record { bitrate_index = rw is all.0; sampling_frequency = rw is all.1; mode = rw is all.3 };
       flag = flag_back padded (number / 512 % 2) (rw is all.2);

@@ -10,7 +10,7 @@ use Rattle.l3_bits.proofs.Numbers.{joined, fold-digits, digits-fold, fold-from, 
 use Rattle.l3_bits.proofs.Places.{length-digits}
 use Rattle.l3_bits.proofs.Bytes.{number_of-digits}
 use Rattle.l3_stream.specs.Fields.{spelled, fields_at, FieldsFit}
-use Rattle.l3_side.specs.Numbers.{total_width, fields_in}
+use Rattle.l3_side.specs.Numbers.{total_width, fields_of_number}
 
 -- the digits of a number with a field after it
 pub digits-append : (m n a b : ℕ) → b < 2 ^ n → digits (m + n) (a * 2 ^ n + b) ≡ digits m a ++ digits n b
@@ -51,18 +51,18 @@ number_of-spelled ws vs fit =
     ap number_of (sym (number_in-digits ws vs fit)) ∙ number_of-digits (total_width ws) (number_in ws vs) (number_in-small ws vs fit)
 
 -- what stands above the fields does not count
-fields_in-low : (ws : List ℕ) (high low : ℕ) → fields_in ws (high * 2 ^ total_width ws + low) ≡ fields_in ws low
-fields_in-low [] high low = refl
-fields_in-low (w ∷ ws) high low =
+fields_of_number-low : (ws : List ℕ) (high low : ℕ) → fields_of_number ws (high * 2 ^ total_width ws + low) ≡ fields_of_number ws low
+fields_of_number-low [] high low = refl
+fields_of_number-low (w ∷ ws) high low =
     let p = 2 ^ total_width ws in
     let grouped : high * 2 ^ (w + total_width ws) + low ≡ high * 2 ^ w * p + low = rw (pow-add 2 w (total_width ws)) (omega arith) in
     let head : (high * 2 ^ w * p + low) / p % 2 ^ w ≡ low / p % 2 ^ w =
     ap (λ x. x % 2 ^ w) (mul-add-div_right (pow_pos (total_width ws)) (high * 2 ^ w) low) ∙ mul-add-mod_self_right high (2 ^ w) (low / p) in
-    ap (fields_in (w ∷ ws)) grouped
-    ∙ (ap (λ x. x ∷ fields_in ws (high * 2 ^ w * p + low)) head ∙ ap (λ xs. low / p % 2 ^ w ∷ xs) (fields_in-low ws (high * 2 ^ w) low))
+    ap (fields_of_number (w ∷ ws)) grouped
+    ∙ (ap (λ x. x ∷ fields_of_number ws (high * 2 ^ w * p + low)) head ∙ ap (λ xs. low / p % 2 ^ w ∷ xs) (fields_of_number-low ws (high * 2 ^ w) low))
 
 -- the fields that bits hold are those of the number that the bits stand for
-pub fields_at-number : (ws : List ℕ) (bits : List Bool) → length bits ≡ total_width ws → fields_at ws bits ≡ fields_in ws (number_of bits)
+pub fields_at-number : (ws : List ℕ) (bits : List Bool) → length bits ≡ total_width ws → fields_at ws bits ≡ fields_of_number ws (number_of bits)
 fields_at-number [] bits size = refl
 fields_at-number (w ∷ ws) bits size =
     let front = take w bits in
@@ -76,6 +76,6 @@ fields_at-number (w ∷ ws) bits size =
     let high : number_of front < 2 ^ w = subst (λ (n : ℕ). number_of front < 2 ^ n) wide (number_of-below front) in
     let head : number_of front ≡ number_of bits / p % 2 ^ w =
     sym (ap (λ n. n / p % 2 ^ w) value ∙ (ap (λ n. n % 2 ^ w) (div-mul-add (number_of front) p (number_of back) low) ∙ mod-eq_of_lt high)) in
-    let tail : fields_at ws back ≡ fields_in ws (number_of bits) =
-    fields_at-number ws back rest ∙ sym (ap (fields_in ws) value ∙ fields_in-low ws (number_of front) (number_of back)) in
+    let tail : fields_at ws back ≡ fields_of_number ws (number_of bits) =
+    fields_at-number ws back rest ∙ sym (ap (fields_of_number ws) value ∙ fields_of_number-low ws (number_of front) (number_of back)) in
     ap (λ n. n ∷ fields_at ws back) head ∙ ap (λ xs. number_of bits / p % 2 ^ w ∷ xs) tail

@@ -16,7 +16,7 @@ side_in c f = (f.begin, units_of c f.units)
 abbrev pub IsBare : Unit → Type 0
 IsBare u = stripped u ≡ u
 
--- private_bits and scfsi are 0
+-- private_bits and scfsi are 0. Only the inside of this crate speaks of this.
 pub record IsClearFront (c : Channels) (bits : List Bool) : Type 0 where
   pub private_bits : slice_index (fields_at (front_widths c) bits) 1 ≡ 0
   pub scfsi : slice_index (fields_at (front_widths c) bits) 2 ≡ 0

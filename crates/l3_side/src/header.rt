@@ -28,9 +28,11 @@ pub fn write_header(settings: &Settings, frame: u64) -> [u8; 4]
     bytes
 }
 
-/// The settings of a header and whether the frame is padded, or `None` where the bytes are no header of the profile.
+/// The settings of a header and whether the frame is padded, or `None` where the bytes are no
+/// header of the profile.
 ///
-/// The padding bit may be either at any sampling frequency: a header alone does not tell the number of its frame.
+/// The padding bit may be either at any sampling frequency: a header alone does not tell the number
+/// of its frame.
 pub fn read_header(bytes: &[u8; 4]) -> Option<(Settings, bool)>
     ensures value { header_from (bits_of bytes.now) ≡ result }
     ensures found { IfSome result (λ read. bits_of bytes.now ≡ header_bits read.0 read.1 false false) }

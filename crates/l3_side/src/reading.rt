@@ -16,10 +16,11 @@ use l3_base::{Channels, Settings};
 use l3_bits::take_bits;
 use l3_stream::{ChosenFrame, Unit};
 
-/// Begin and units of side information, or `None` where a field has a value that the profile does not allow.
+/// Begin and units of side information, or `None` where a field has a value that the profile does
+/// not allow.
 ///
-/// The bytes are 17 in mono and 32 in stereo. Lines and quadruples are not in them: both are 0 in the answer. In mono the second
-/// channel's units are zero in every field.
+/// The bytes are 17 in mono and 32 in stereo. Lines and quadruples are not in them: both are 0 in
+/// the answer. In mono the second channel's units are zero in every field.
 pub fn read_side(settings: &Settings, bytes: &[u8]) -> Option<ChosenFrame>
     requires { length bytes.now ≡ side_bytes settings.now.channels }
     ensures value { side_at settings.now.channels (bits_of bytes.now) ≡ option_map (side_in settings.now.channels) result }
@@ -40,7 +41,8 @@ pub fn read_side(settings: &Settings, bytes: &[u8]) -> Option<ChosenFrame>
     if whole { Some(frame) } else { None }
 }
 
-// Reads two units after the front into a frame of blank units. Where it answers false the frame is of no use.
+// Reads two units after the front into a frame of blank units. Where it answers false the frame is
+// of no use.
 fn read_mono(bytes: &[u8], frame: &mut ChosenFrame) -> bool
     requires size { length bytes.now ≡ 17 }
     requires empty { frame.old.units ≡ replicate 2 (replicate 2 blank) }
@@ -59,7 +61,8 @@ fn read_mono(bytes: &[u8], frame: &mut ChosenFrame) -> bool
     }
 }
 
-// Reads four units after the front into a frame of blank units. Where it answers false the frame is of no use.
+// Reads four units after the front into a frame of blank units. Where it answers false the frame is
+// of no use.
 fn read_stereo(bytes: &[u8], frame: &mut ChosenFrame) -> bool
     requires size { length bytes.now ≡ 32 }
     requires empty { frame.old.units ≡ replicate 2 (replicate 2 blank) }

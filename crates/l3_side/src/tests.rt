@@ -49,8 +49,9 @@ fn headers_both_ways(rt: HostRuntime) {
 
 #[test]
 fn refused_headers(rt: HostRuntime) {
-    // Each differs from FF FB 90 C0 in one field: sync, ID, layer, protection_bit, bitrate_index 0 and 15,
-    // sampling_frequency, private, mode 01 and 10, mode_extension, copyright, original, emphasis.
+    // Each differs from FF FB 90 C0 in one field: sync, ID, layer, protection_bit, bitrate_index 0
+    // and 15, sampling_frequency, private, mode 01 and 10, mode_extension, copyright, original,
+    // emphasis.
     let cases = [
         [0x00, 0xFB, 0x90, 0xC0],
         [0xFF, 0xF3, 0x90, 0xC0],
@@ -122,7 +123,8 @@ fn check_frame(rt: &impl Abort, settings: &Settings, frame: &ChosenFrame, bytes:
     }
 }
 
-// The codes of a pair of zeros have 1 bit in the tables 1, 7 and 10, 2 in table 11, 4 in table 24, and a quadruple of zeros has 4 in table B.
+// The codes of a pair of zeros have 1 bit in the tables 1, 7 and 10, 2 in table 11, 4 in table 24,
+// and a quadruple of zeros has 4 in table B.
 #[test]
 fn a_mono_frame_both_ways(rt: HostRuntime) {
     let first = unit_of([9, 5, 1], 150, [7, 10, 24], [1, 2], QuadTable::B);
@@ -166,7 +168,8 @@ fn is_read_with(at: u64, value: u64, width: u32) -> bool
     read_side(&settings(Channels::Mono), &bytes).is_some()
 }
 
-// private_bits, scfsi, then of the first unit scalefac_compress, window_switching_flag, preflag and scalefac_scale.
+// private_bits, scfsi, then of the first unit scalefac_compress, window_switching_flag, preflag and
+// scalefac_scale.
 #[test]
 fn fields_that_must_be_zero(rt: HostRuntime) {
     for (at, width) in [(13, 1), (17, 1), (50, 1), (51, 1), (74, 1), (75, 1)] {

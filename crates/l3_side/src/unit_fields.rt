@@ -1,4 +1,5 @@
-//! The 59 bits of a unit in the side information, as one number (ISO/IEC 11172-3, 2.4, the audio data of Layer III).
+//! The 59 bits of a unit in the side information, as one number (ISO/IEC 11172-3, 2.4, the audio
+//! data of Layer III).
 
 ghost use Rattle.std.specs.Prelude.{◌≡◌, ◌<◌, ◌≤◌, ◌^◌, ◌/◌, ◌%◌, true, false};
 ghost use Rattle.l3_bits.specs.Bits.{digits};
@@ -6,7 +7,7 @@ ghost use Rattle.l3_stream.specs.Units.{HasFields};
 ghost use Rattle.l3_stream.specs.Frames.{blank};
 ghost use Rattle.l3_stream.specs.Side.{unit_side, unit_widths};
 ghost use Rattle.l3_stream.specs.SideReading.{quad_from, unit_from, PassesRule};
-ghost use Rattle.l3_side.specs.Numbers.{fields_in, HasZeros};
+ghost use Rattle.l3_side.specs.Numbers.{fields_of_number, HasZeros};
 
 use l3_huff::{QuadTable, is_table};
 use l3_stream::Unit;
@@ -31,15 +32,15 @@ pub(crate) fn unit_number(unit: &Unit) -> u64
         QuadTable::B => 1,
     };
 
-    // scalefac_compress and window_switching_flag, five bits before the tables, are 0, and so are preflag and
-    // scalefac_scale, two bits before the last.
+    // scalefac_compress and window_switching_flag, five bits before the tables, are 0, and so are
+    // preflag and scalefac_scale, two bits before the last.
     ((size * 1_048_576 + tables) * 128 + regions) * 8 + quad
 }
 
 // Whether a unit's number has fields of the profile.
 pub(crate) fn passes(number: u64) -> bool
-    ensures yes { result ≡ true → PassesRule (fields_in unit_widths number) }
-    ensures no { result ≡ false → PassesRule (fields_in unit_widths number) → ⊥ }
+    ensures yes { result ≡ true → PassesRule (fields_of_number unit_widths number) }
+    ensures no { result ≡ false → PassesRule (fields_of_number unit_widths number) → ⊥ }
 {
     has_zero_fields(number)
         && field(number, 38, 9) <= BIG_LIMIT
@@ -52,7 +53,7 @@ pub(crate) fn passes(number: u64) -> bool
 // Sets the fields of a blank unit to those of a number.
 pub(crate) fn set_fields(unit: &mut Unit, number: u64)
     requires { unit.old ≡ blank }
-    ensures { unit.new ≡ unit_from (fields_in unit_widths number) }
+    ensures { unit.new ≡ unit_from (fields_of_number unit_widths number) }
 {
     unit.length = field(number, 47, 12) as u16;
     unit.big = field(number, 38, 9) as u16;
@@ -69,8 +70,8 @@ pub(crate) fn set_fields(unit: &mut Unit, number: u64)
 
 // Whether scalefac_compress, window_switching_flag, preflag and scalefac_scale are 0.
 fn has_zero_fields(number: u64) -> bool
-    ensures yes { result ≡ true → HasZeros (fields_in unit_widths number) }
-    ensures no { result ≡ false → HasZeros (fields_in unit_widths number) → ⊥ }
+    ensures yes { result ≡ true → HasZeros (fields_of_number unit_widths number) }
+    ensures no { result ≡ false → HasZeros (fields_of_number unit_widths number) → ⊥ }
 {
     field(number, 26, 4) == 0
         && field(number, 25, 1) == 0

@@ -1,4 +1,5 @@
-//! Writing side information: main_data_begin, private_bits and scfsi, then the units granule by granule (ISO/IEC 11172-3, 2.4).
+//! Writing side information: main_data_begin, private_bits and scfsi, then the units granule by
+//! granule (ISO/IEC 11172-3, 2.4).
 
 ghost use Rattle.std.specs.Prelude.{◌≡◌, ◌≤◌, ◌<◌, ◌+◌, ◌*◌, ◌^◌, ◌++◌, length, take, drop};
 ghost use Rattle.std.specs.List.{AllByRecursion};
@@ -12,7 +13,8 @@ use l3_base::{Channels, Settings};
 use l3_bits::put_bits;
 use l3_stream::{ChosenFrame, Unit};
 
-/// Writes the side information of a coded frame, and answers with its bytes: 17 in mono, 32 in stereo. The others stay.
+/// Writes the side information of a coded frame, and answers with its bytes: 17 in mono, 32 in
+/// stereo. The others stay.
 pub fn write_side(settings: &Settings, frame: &ChosenFrame, out: &mut [u8; 32]) -> usize
     requires coded { IsCoded settings.now frame.now }
     requires begin { frame.now.begin ≤ 511 }

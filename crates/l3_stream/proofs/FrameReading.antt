@@ -1,4 +1,5 @@
--- Header, side information and main data of a frame: what is read is spelled so, and what is spelled so is read.
+-- Header, side information and main data of a frame: what is read is spelled so, and what is
+-- spelled so is read.
 use Rattle.std.proofs.Common.{◌≡◌, ℕ, zero, suc, ◌+◌, ◌-◌, ◌*◌, ◌^◌, ◌<◌, ◌≤◌, Bool, false, ◌&&◌, leb, List, [], ◌∷◌, ◌++◌, length, replicate, take, drop, map, Ok, refl, sym, ap, ◌∙◌, arith, append_assoc, length-append}
 use Rattle.std.specs.Prelude.{All}
 use Rattle.std.specs.List.{AllByRecursion}

@@ -48,7 +48,8 @@ pub record IsRate (r : Rate) : Type 0 where
   pub index : index_of r < 2 ^ 4
   pub kbits : 32 ≤ kbits_of r
 
-is_rate : (r : Rate) → IsRate r
+-- the bitrate_index of a rate, and its least
+pub is_rate : (r : Rate) → IsRate r
 is_rate K32 = record { index = omega arith; kbits = omega arith }
 is_rate K40 = record { index = omega arith; kbits = omega arith }
 is_rate K48 = record { index = omega arith; kbits = omega arith }

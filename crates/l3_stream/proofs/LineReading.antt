@@ -1,4 +1,5 @@
--- Pairs and quadruples one after the other: what is read is spelled so, and what is spelled so is read.
+-- Pairs and quadruples one after the other: what is read is spelled so, and what is spelled so is
+-- read.
 use Rattle.std.proofs.Common.{◌≡◌, ℕ, zero, suc, ◌+◌, ◌-◌, ◌*◌, ◌≤◌, Bool, List, [], ◌∷◌, ◌++◌, length, Some, None, Ok, refl, sym, ap, subst, ◌∙◌, arith, append_assoc, length-append}
 use Rattle.std.specs.Prelude.{ℤ}
 use Rattle.l3_huff.specs.declared.quads.QuadTable.{QuadTable}

@@ -14,7 +14,7 @@ IsCodedGranule st Mono (a ∷ b ∷ []) = IsCodedUnit st a × (b ≡ blank)
 IsCodedGranule st Stereo (a ∷ b ∷ []) = IsCodedUnit st a × IsCodedUnit st b
 IsCodedGranule st c _ = ⊥
 
--- all fields are 0, but for the lines
+-- all fields are 0, but for the lines. Only the inside of this crate speaks of this.
 pub record HasZeroFields (u : Unit) : Type 0 where
   pub size : u.length ≡ 0
   pub big : u.big ≡ 0

@@ -17,8 +17,8 @@ use Rattle.l3_stream.specs.Tape.{start_of}
 use Rattle.l3_stream.specs.Faults.{◌>>=◌, checked, or_fault, clear}
 use Rattle.l3_stream.specs.UnitReading.{main_units_at}
 
--- where reading stands: at frame `number`, which begins at byte `at` of the file; the codes before it end at tape bit `end`,
--- and `rest` are the bits from there to the end of the slots before it
+-- where reading stands: at frame `number`, which begins at byte `at` of the file; the codes before
+-- it end at tape bit `end`, and `rest` are the bits from there to the end of the slots before it
 pub record Place : Type 0 where
   pub number : ℕ
   pub at : ℕ
@@ -58,7 +58,8 @@ next_place st p side slot = record {
   rest = drop (lengths side.1) (drop (start_of st p.number side.0 - p.end) (p.rest ++ slot));
 }
 
--- the frames from a place on, of which at most so many may come; behind the last frame's codes the tape is 0
+-- the frames from a place on, of which at most so many may come; behind the last frame's codes the
+-- tape is 0
 unfoldable pub frames_from : Settings → ℕ → Place → List ℕ → Result (List ChosenFrame) StreamFault
 frames_from st limit p [] = do
   zeros ← clear p.end p.rest

@@ -13,7 +13,7 @@ abbrev pub fields_at : List ℕ → List Bool → List ℕ
 fields_at [] bits = []
 fields_at (width ∷ widths) bits = number_of (take width bits) ∷ fields_at widths (drop width bits)
 
--- a number for each width, below 2 to its power
+-- a number for each width, below 2 to its power. Only proofs speak of this.
 abbrev pub FieldsFit : List ℕ → List ℕ → Type 0
 FieldsFit [] [] = ⊤
 FieldsFit (width ∷ widths) (value ∷ values) = (value < 2 ^ width) × FieldsFit widths values

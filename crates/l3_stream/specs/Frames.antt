@@ -1,4 +1,5 @@
--- A frame: its units in order, its codes, and when it is coded (ISO/IEC 11172-3, 2.4, the main data).
+-- A frame: its units in order, its codes, and when it is coded (ISO/IEC 11172-3, 2.4, the main
+-- data).
 use Rattle.std.specs.Prelude.{◌≡◌, ℕ, Bool, List, [], ◌∷◌, length, sum_by}
 use Rattle.std.specs.List.{flat_map, AllByRecursion}
 use Rattle.l3_base.specs.declared.settings.Settings.{Settings}
@@ -38,11 +39,13 @@ units_bits st us = flat_map (unit_bits st) us
 unfoldable pub code_bits : Settings → ChosenFrame → List Bool
 code_bits st f = units_bits st (units_of st.channels f.units)
 
--- the bits of a frame's main data: the sum of part2_3_length of all its units; blank units add nothing
+-- the bits of a frame's main data: the sum of part2_3_length of all its units; blank units add
+-- nothing
 abbrev pub main_data_length : ChosenFrame → ℕ
 main_data_length f = sum_by lengths f.units
 
--- a coded frame: two granules of two units, in mono the second of each blank, and each unit of a channel that is there is coded
+-- a coded frame: two granules of two units, in mono the second of each blank, and each unit of a
+-- channel that is there is coded
 pub record IsCoded (st : Settings) (f : ChosenFrame) : Type 0 where
   pub shape : f.units ≡ placed st.channels (units_of st.channels f.units)
   pub number : length (units_of st.channels f.units) ≡ units_number st.channels

@@ -1,4 +1,5 @@
--- The header of a frame by its number, and the settings of a first header (ISO/IEC 11172-3, 2.4.1.3).
+-- The header of a frame by its number, and the settings of a first header (ISO/IEC 11172-3,
+-- 2.4.1.3).
 use Rattle.std.specs.Prelude.{ℕ, ◌-◌, Bool, false, List, [], ◌∷◌, take, drop, get_or, ◌==◌, if◌then◌else◌, Option, Some, None}
 use Rattle.l3_bits.specs.Bits.{number_of}
 use Rattle.l3_base.specs.declared.settings.Settings.{Settings}
@@ -30,7 +31,8 @@ hertz_from index = get_or (Hz44100 ∷ Hz48000 ∷ Hz32000 ∷ []) index Hz44100
 abbrev pub channels_from : ℕ → Channels
 channels_from mode = if mode == 3 then Mono else Stereo
 
--- the only settings whose header it may be: bitrate_index, sampling_frequency and mode stand at bits 16, 20 and 24
+-- the only settings whose header it may be: bitrate_index, sampling_frequency and mode stand at
+-- bits 16, 20 and 24
 unfoldable pub settings_of : List Bool → Settings
 settings_of bits = record {
   rate = rate_from (number_of (take 4 (drop 16 bits)));

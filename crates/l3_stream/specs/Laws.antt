@@ -16,7 +16,8 @@ use Rattle.l3_stream.specs.Tape.{start_of, end_of, tape_of, FramesFit}
 
 -- ---- the tape by positions
 
--- the tape has the bits of all slots; bit t of frame n's codes stands at 8 (S_n - begin_n) + t; a bit that no frame's codes reach is 0
+-- the tape has the bits of all slots; bit t of frame n's codes stands at 8 (S_n - begin_n) + t; a
+-- bit that no frame's codes reach is 0
 pub record TapeIs (st : Settings) (fs : List ChosenFrame) : Type 0 where
   pub whole : length (tape_of st fs) ≡ 8 * slots_before st (length fs)
   pub codes : (n t : ℕ) (f : ChosenFrame) → slice_get fs n ≡ Some f → t < length (code_bits st f) →
@@ -27,7 +28,8 @@ pub record TapeIs (st : Settings) (fs : List ChosenFrame) : Type 0 where
 abbrev pub TapeByPositions : Type 0
 TapeByPositions = (st : Settings) (fs : List ChosenFrame) → FramesFit st 0 0 fs → TapeIs st fs
 
--- a frame has as many code bits as part2_3_length says: of the units in the stream's order, and of all units
+-- a frame has as many code bits as part2_3_length says: of the units in the stream's order, and of
+-- all units
 pub record HasLengths (st : Settings) (f : ChosenFrame) : Type 0 where
   pub units : length (code_bits st f) ≡ lengths (units_of st.channels f.units)
   pub all : length (code_bits st f) ≡ main_data_length f

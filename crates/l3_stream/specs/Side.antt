@@ -1,4 +1,5 @@
--- The side information: main_data_begin and the fields of the units (ISO/IEC 11172-3, 2.4, the audio data of Layer III).
+-- The side information: main_data_begin and the fields of the units (ISO/IEC 11172-3, 2.4, the
+-- audio data of Layer III).
 use Rattle.std.specs.Prelude.{◌≡◌, ℕ, ◌+◌, ◌<◌, ◌^◌, Bool, List, [], ◌∷◌, ◌++◌, length, slice_index}
 use Rattle.std.specs.List.{flat_map, AllByRecursion}
 use Rattle.l3_base.specs.declared.rate.Channels.{Channels}
@@ -18,8 +19,8 @@ abbrev pub quad_number : QuadTable → ℕ
 quad_number A = 0
 quad_number B = 1
 
--- part2_3_length, big_values, global_gain, scalefac_compress, window_switching_flag, three of table_select,
--- region0_count, region1_count, preflag, scalefac_scale, count1table_select
+-- part2_3_length, big_values, global_gain, scalefac_compress, window_switching_flag, three of
+-- table_select, region0_count, region1_count, preflag, scalefac_scale, count1table_select
 abbrev pub unit_widths : List ℕ
 unit_widths = 12 ∷ 9 ∷ 8 ∷ 4 ∷ 1 ∷ 5 ∷ 5 ∷ 5 ∷ 4 ∷ 3 ∷ 1 ∷ 1 ∷ 1 ∷ []
 

@@ -29,7 +29,8 @@ pub record IsContent (limit : ℕ) (bytes : List ℕ) (content : Content) : Type
   pub spells : Spells bytes settings content.frames
   pub same : content ≡ content_of settings content.frames
 
--- bytes have no deviation exactly where they are spelled; what is read is what spells them, and what spells them is read
+-- bytes have no deviation exactly where they are spelled; what is read is what spells them, and
+-- what spells them is read
 pub record DeviatesExactly (limit : ℕ) (bytes : List ℕ) : Type 0 where
   pub only : deviation_of limit bytes ≡ None → IsSpelled limit bytes
   pub there : IsSpelled limit bytes → deviation_of limit bytes ≡ None

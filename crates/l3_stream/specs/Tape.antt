@@ -1,4 +1,5 @@
--- The joined main data of all frames, the tape, and the stream that frames spell (ISO/IEC 11172-3, 2.4, main_data_begin).
+-- The joined main data of all frames, the tape, and the stream that frames spell (ISO/IEC 11172-3,
+-- 2.4, main_data_begin).
 use Rattle.std.specs.Prelude.{◌≡◌, ℕ, suc, ◌+◌, ◌-◌, ◌*◌, ◌≤◌, Bool, false, List, [], ◌∷◌, ◌++◌, length, replicate, take, drop, ⊤}
 use Rattle.l3_bits.specs.Bits.{packed}
 use Rattle.l3_base.specs.declared.settings.Settings.{Settings}
@@ -8,7 +9,8 @@ use Rattle.l3_stream.specs.Frames.{IsCoded, code_bits}
 use Rattle.l3_stream.specs.Header.{header_at}
 use Rattle.l3_stream.specs.Side.{side_of}
 
--- the tape bit where frame n's main data begins: main_data_begin bytes before its own slot, headers and side information not counted
+-- the tape bit where frame n's main data begins: main_data_begin bytes before its own slot, headers
+-- and side information not counted
 unfoldable pub start_of : Settings → ℕ → ℕ → ℕ
 start_of st n begin = 8 * (slots_before st n - begin)
 
@@ -16,8 +18,8 @@ start_of st n begin = 8 * (slots_before st n - begin)
 abbrev pub end_of : Settings → ℕ → ChosenFrame → ℕ
 end_of st n f = start_of st n f.begin + length (code_bits st f)
 
--- frame n fits behind codes that end at a tape bit: it is coded, its main data begins within the tape so far and not before that bit,
--- and its codes end within its own slot
+-- frame n fits behind codes that end at a tape bit: it is coded, its main data begins within the
+-- tape so far and not before that bit, and its codes end within its own slot
 pub record FitsAt (st : Settings) (n end : ℕ) (f : ChosenFrame) : Type 0 where
   pub coded : IsCoded st f
   pub small : f.begin ≤ 511
@@ -30,7 +32,8 @@ abbrev pub FramesFit : Settings → ℕ → ℕ → List ChosenFrame → Type 0
 FramesFit st n end [] = ⊤
 FramesFit st n end (f ∷ fs) = FitsAt st n end f × FramesFit st (suc n) (end_of st n f) fs
 
--- the tape bit behind the codes of these frames, the first of which is frame n, or else the bit `end`
+-- the tape bit behind the codes of these frames, the first of which is frame n, or else the bit
+-- `end`
 unfoldable pub end_after : Settings → (n end : ℕ) → List ChosenFrame → ℕ
 end_after st n end [] = end
 end_after st n end (f ∷ fs) = end_after st (suc n) (end_of st n f) fs
@@ -42,7 +45,8 @@ pub record CanFollow (st : Settings) (n begin : ℕ) (fs : List ChosenFrame) : T
   pub there : begin ≤ slots_before st n
   pub behind : end_after st 0 0 fs ≤ start_of st n begin
 
--- the tape from bit `end` on, frame n being the next: zeros up to a frame's main data, its codes, and zeros up to the end of the last slot
+-- the tape from bit `end` on, frame n being the next: zeros up to a frame's main data, its codes,
+-- and zeros up to the end of the last slot
 abbrev pub tape_from : Settings → ℕ → ℕ → List ChosenFrame → List Bool
 tape_from st n end [] = replicate (8 * slots_before st n - end) false
 tape_from st n end (f ∷ fs) = replicate (start_of st n f.begin - end) false ++ (code_bits st f ++ tape_from st (suc n) (end_of st n f) fs)

@@ -1,4 +1,5 @@
--- The reading of units from their side information and the bits of the tape. `end` is the tape bit behind the bits that are left.
+-- The reading of units from their side information and the bits of the tape. `end` is the tape bit
+-- behind the bits that are left.
 use Rattle.std.specs.Prelude.{ℕ, zero, suc, ◌+◌, ◌-◌, ◌*◌, ◌/◌, Bool, List, [], ◌∷◌, ◌++◌, length, take, drop, Result, Ok, Err, ℤ}
 use Rattle.l3_base.specs.declared.settings.Settings.{Settings}
 use Rattle.l3_huff.specs.declared.quads.QuadTable.{QuadTable}
@@ -30,7 +31,8 @@ quads_at table end (suc room) (b ∷ bits) = do
 unfoldable pub with_lines : Unit → List ℤ → List ℤ → Unit
 with_lines u pairs quads = record u { quads = length quads / 4; lines = pairs ++ (quads ++ zero_lines (576 - (length pairs + length quads))) }
 
--- the unit of this side information, from its bits: big_values pairs, then quadruples while 4 lines have room
+-- the unit of this side information, from its bits: big_values pairs, then quadruples while 4 lines
+-- have room
 unfoldable pub unit_at : Settings → ℕ → Unit → List Bool → Result Unit StreamFault
 unit_at st end u bits = do
   pairs ← pairs_at (table_at st u) end 0 u.big bits

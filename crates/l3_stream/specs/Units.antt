@@ -1,4 +1,5 @@
--- A unit, one channel of one granule: its codes, and when it is coded (ISO/IEC 11172-3, 2.4, the main data).
+-- A unit, one channel of one granule: its codes, and when it is coded (ISO/IEC 11172-3, 2.4, the
+-- main data).
 use Rattle.std.specs.Prelude.{◌≡◌, ℕ, ◌+◌, ◌-◌, ◌*◌, ◌≤◌, ◌<◌, ◌^◌, Bool, List, [], ◌∷◌, ◌++◌, length, replicate, take, drop, ℤ, pos, nat_lt, if◌then◌else◌, slice_index, ⊤}
 use Rattle.l3_base.specs.declared.settings.Settings.{Settings}
 use Rattle.l3_base.specs.Rates.{hertz_index_of}
@@ -17,7 +18,8 @@ edge st band = edge_at (hertz_index_of st.sample_rate) band
 abbrev pub region_by : (second third line : ℕ) → ℕ
 region_by second third line = if nat_lt line second then 0 else if nat_lt line third then 1 else 2
 
--- the region of a line: 0 below edge region0 + 1, 1 from there to below edge region0 + region1 + 2, 2 from there on
+-- the region of a line: 0 below edge region0 + 1, 1 from there to below edge region0 + region1 + 2,
+-- 2 from there on
 abbrev pub region_at : Settings → Unit → ℕ → ℕ
 region_at st u line = region_by (edge st (u.region0 + 1)) (edge st (u.region0 + u.region1 + 2)) line
 
@@ -25,7 +27,8 @@ region_at st u line = region_by (edge st (u.region0 + 1)) (edge st (u.region0 + 
 unfoldable pub table_at : Settings → Unit → ℕ → ℕ
 table_at st u line = slice_index u.tables (region_at st u line)
 
--- the tables of lines: table_select of the three regions, and the lines at which the second and the third begin
+-- the tables of lines: table_select of the three regions, and the lines at which the second and the
+-- third begin
 pub record LineTables : Type 0 where
   pub tables : List ℕ
   pub second : ℕ
@@ -96,7 +99,8 @@ pub record HasFields (u : Unit) : Type 0 where
   pub table1 : IsTable (slice_index u.tables 1)
   pub table2 : IsTable (slice_index u.tables 2)
 
--- a coded unit: pairs and quadruples are within the 576 lines, past them all is 0, their tables hold them, and part2_3_length counts their bits
+-- a coded unit: pairs and quadruples are within the 576 lines, past them all is 0, their tables
+-- hold them, and part2_3_length counts their bits
 pub record IsCodedUnit (st : Settings) (u : Unit) : Type 0 where
   pub fields : HasFields u
   pub lines : length u.lines ≡ 576

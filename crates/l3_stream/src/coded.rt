@@ -1,19 +1,21 @@
-//! Whether a frame is coded: its fields are ones that the side information can say, and its codes spell its lines.
+//! Whether a frame is coded: its fields are ones that the side information can say, and its codes
+//! spell its lines.
 
 ghost use Rattle.std.specs.Prelude.{◌≡◌, ◌≤◌, ◌+◌, ◌-◌, ◌*◌, ◌↔◌, true, false, All, IsTrue, drop, length, pos};
 ghost use Rattle.l3_stream.specs.Units.{HasFields, IsCodedUnit, pairs_of, quads_of};
 ghost use Rattle.l3_stream.specs.Frames.{IsCoded, blank};
 ghost use Rattle.l3_stream.specs.Coded.{HasZeroFields, IsCodedGranule};
 
-use crate::held::{bits_of_pairs, bits_of_quads};
+use crate::code_bits::{bits_of_pairs, bits_of_quads};
 use crate::unit::{ChosenFrame, Unit};
 use l3_base::{Channels, Settings};
 use l3_huff::{QuadTable, is_table};
 
 /// Whether the frame is coded under these settings, `main_data_begin` aside.
 ///
-/// The places of pairs and quadruples are within the 576 lines, all lines past them are 0, the table of each pair holds it,
-/// quadruples hold at most 1, and each unit's `length` is the number of its code bits. In mono the second channel's units are zero.
+/// The places of pairs and quadruples are within the 576 lines, all lines past them are 0, the
+/// table of each pair holds it, quadruples hold at most 1, and each unit's `length` is the number
+/// of its code bits. In mono the second channel's units are zero.
 pub fn is_coded(settings: &Settings, frame: &ChosenFrame) -> bool
     ensures coded { result ≡ true → IsCoded settings.now frame.now }
     ensures refused { result ≡ false → IsCoded settings.now frame.now → ⊥ }

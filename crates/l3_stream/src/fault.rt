@@ -5,8 +5,9 @@ use thiserror::Error;
 
 /// What is wrong with a stream, and where.
 ///
-/// The rules of reading are tried frame by frame in their order, and the first one that refuses decides. A place is the byte at which the
-/// frame begins in the file, or a bit of the tape, the joined main data of all frames.
+/// The rules of reading are tried frame by frame in their order, and the first one that refuses
+/// decides. A place is the byte at which the frame begins in the file, or a bit of the tape, the
+/// joined main data of all frames.
 #[derive(Clone, Copy, Debug, PartialEq, Eq, Error)]
 pub enum StreamFault {
     #[error("at byte {0}: not the header of this frame")]

@@ -1,14 +1,18 @@
-//! The words of a stream: units, frames, side information, the joined main data, and the bytes that frames spell.
+//! The words of a stream: units, frames, side information, the joined main data, and the bytes that
+//! frames spell.
 //!
-//! A frame of quantised lines -> whether it can be coded. What its bits are, and how they are read again, is this crate's definitions.
-//! The syntax is that of Layer III (ISO/IEC 11172-3, clause 2.4), as far as the profile has it. The codes of the units of all frames
-//! stand on one row of bits, the tape: the main data of all frames joined, headers and side information left out.
-//! Before: the count that chose a unit's fields, and the code tables. After: the frame writer and the stream reader, which cite these words.
+//! A frame of quantised lines -> whether it can be coded. What its bits are, and how they are read
+//! again, is this crate's definitions.
+//! The syntax is that of Layer III (ISO/IEC 11172-3, clause 2.4), as far as the profile has it. The
+//! codes of the units of all frames stand on one row of bits, the tape: the main data of all frames
+//! joined, headers and side information left out.
+//! Before: the count that chose a unit's fields, and the code tables. After: the frame writer and
+//! the stream reader, which cite these words.
 #![tactic(auto)]
 
+mod code_bits;
 mod coded;
 mod fault;
-mod held;
 mod laws;
 mod regions;
 mod unit;

@@ -1,4 +1,5 @@
-//! Which table the pairs of a unit are coded with (ISO/IEC 11172-3, 2.4: region0_count, region1_count, table_select).
+//! Which table the pairs of a unit are coded with (ISO/IEC 11172-3, 2.4: region0_count,
+//! region1_count, table_select).
 
 ghost use Rattle.std.specs.Prelude.{◌≡◌, ◌≤◌};
 ghost use Rattle.l3_huff.specs.Tables.{IsTable};
@@ -8,7 +9,8 @@ use crate::unit::Unit;
 use l3_base::Settings;
 use std::marker::Model;
 
-/// The regions of a unit's pairs, found once for the unit: their tables, and the lines at which they begin.
+/// The regions of a unit's pairs, found once for the unit: their tables, and the lines at which
+/// they begin.
 #[derive(Drop)]
 pub struct Regions {
     tables: [u8; 3],
@@ -44,6 +46,7 @@ impl Regions {
     }
 
     /// `table_select` of the pair that begins at a line.
+    #[inline(always)]
     pub fn table(&self, line: usize) -> u8
         ensures value { result ≡ table_by self.now line }
         ensures table { IsTable result }

@@ -8,15 +8,16 @@ use l3_huff::QuadTable;
 
 /// One channel of one granule: the fields of its side information, and its lines.
 ///
-/// The other fields of a unit's side information are 0 in the profile: `scalefac_compress`, `window_switching_flag`, `preflag`,
-/// `scalefac_scale` (ISO/IEC 11172-3, clause 2.4).
+/// The other fields of a unit's side information are 0 in the profile: `scalefac_compress`,
+/// `window_switching_flag`, `preflag`, `scalefac_scale` (ISO/IEC 11172-3, clause 2.4).
 #[derive(Clone, Copy, Debug)]
 pub struct Unit {
     /// `part2_3_length`: the bits of its codes, at most 4095.
     pub length: u16,
     /// `big_values`: the pairs that come first, at most 288.
     pub big: u16,
-    /// The quadruples after the pairs. The stream has no field for them: they go on until the code bits end.
+    /// The quadruples after the pairs. The stream has no field for them: they go on until the code
+    /// bits end.
     pub quads: u16,
     /// `global_gain`.
     pub gain: u8,
@@ -83,14 +84,17 @@ impl Unit {
 /// What one frame holds: where its main data begins, and its units.
 #[derive(Clone, Copy, Debug)]
 pub struct ChosenFrame {
-    /// `main_data_begin`: how many bytes of the tape before its own slot its main data begins, at most 511.
+    /// `main_data_begin`: how many bytes of the tape before its own slot its main data begins, at
+    /// most 511.
     pub begin: u16,
-    /// By granule and channel. In mono the second channel's units are zero in every field, with table A.
+    /// By granule and channel. In mono the second channel's units are zero in every field, with
+    /// table A.
     pub units: [[Unit; 2]; 2],
 }
 
 impl ChosenFrame {
-    /// The bits of the frame's main data: the sum of `part2_3_length` of its units. The blank units of mono add nothing.
+    /// The bits of the frame's main data: the sum of `part2_3_length` of its units. The blank units
+    /// of mono add nothing.
     pub fn main_data_length(&self) -> u64
         ensures value { result ≡ main_data_length self.now }
         ensures limit { result < 2 ^ 18 }

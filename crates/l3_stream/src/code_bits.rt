@@ -11,7 +11,8 @@ use crate::unit::Unit;
 use l3_base::Settings;
 use l3_huff::{QuadTable, holds, pair_bits, quad_bits};
 
-// The bits of a unit's pairs, or nothing where a table does not hold its pair. `lines` are those of the pairs.
+// The bits of a unit's pairs, or nothing where a table does not hold its pair. `lines` are those of
+// the pairs.
 pub(crate) fn bits_of_pairs(settings: &Settings, unit: &Unit, lines: &[i16]) -> Option<u32>
     requires fields { HasFields unit.now }
     requires pairs { length lines.now ≡ 2 * unit.now.big }
@@ -31,7 +32,8 @@ pub(crate) fn bits_of_pairs(settings: &Settings, unit: &Unit, lines: &[i16]) -> 
     Some(bits)
 }
 
-// The bits of quadruples, or nothing where one holds more than 1. `lines` are those of the quadruples.
+// The bits of quadruples, or nothing where one holds more than 1. `lines` are those of the
+// quadruples.
 pub(crate) fn bits_of_quads(table: QuadTable, count: u16, lines: &[i16]) -> Option<u32>
     requires whole { length lines.now ≡ 4 * count }
     requires places { 4 * count ≤ 576 }

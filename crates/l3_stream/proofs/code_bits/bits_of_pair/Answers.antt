@@ -1,7 +1,7 @@
 use Rattle.std.proofs.Common.{sym, ◌∙◌, FitsSigned, w16, rules}
 use Rattle.std.proofs.lemmas.Int.{to_z-of_z}
 use Rattle.l3_huff.proofs.Lengths.{length-of_magnitudes}
-use Rattle.l3_stream.proofs.held.bits_of_pair.Goals as goal
+use Rattle.l3_stream.proofs.code_bits.bits_of_pair.Goals as goal
 
 pub returns-then-holds-2-clause-value : goal.returns-then-holds-2-clause-value
 returns-then-holds-2-clause-value c =

@@ -2,7 +2,7 @@ use Rattle.std.proofs.Common.{arith, ◌*◌, ◌+◌, ◌<◌, length, ap, sym,
 use Rattle.std.proofs.lemmas.Int.{to_z-of_z}
 use Rattle.l3_huff.specs.Codes.{IsQuad, quad_code_of}
 use Rattle.l3_stream.proofs.Lines.{line_at, same_quad, one_quad_more, quad_refused, all_quads}
-use Rattle.l3_stream.proofs.held.bits_of_quads.Goals as goal
+use Rattle.l3_stream.proofs.code_bits.bits_of_quads.Goals as goal
 
 pub returns-in-None-clause-none : goal.returns-in-None-clause-none
 returns-in-None-clause-none c =

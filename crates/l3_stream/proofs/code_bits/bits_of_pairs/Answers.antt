@@ -2,7 +2,7 @@ use Rattle.std.proofs.Common.{arith, ◌≡◌, ◌∙◌, ap, ◌*◌, ◌+◌,
 use Rattle.std.proofs.lemmas.Int.{to_z-of_z}
 use Rattle.l3_stream.specs.Units.{table_at}
 use Rattle.l3_stream.proofs.Lines.{line_at, one_pair_more, pair_refused, all_pairs}
-use Rattle.l3_stream.proofs.held.bits_of_pairs.Goals as goal
+use Rattle.l3_stream.proofs.code_bits.bits_of_pairs.Goals as goal
 
 pub returns-in-None-clause-none : goal.returns-in-None-clause-none
 returns-in-None-clause-none c =
