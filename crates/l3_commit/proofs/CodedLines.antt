@@ -1,4 +1,5 @@
--- Stretches of pairs that have one table, and quadruples: their codes are as long as the bits that are counted for them.
+-- Stretches of pairs that have one table, and quadruples: their
+-- codes are as long as the bits that are counted for them.
 use Rattle.std.proofs.Common.{◌≡◌, ℕ, zero, suc, ◌+◌, ◌*◌, ◌<◌, ◌≤◌, List, [], ◌∷◌, ◌++◌, length, refl, ap, subst, arith, length-append}
 use Rattle.std.specs.Prelude.{ℤ, All, unsigned_abs}
 use Rattle.l3_huff.specs.declared.quads.QuadTable.{QuadTable}

@@ -1,4 +1,5 @@
--- The unit that is picked within a budget: it is coded, within the budget, and made of the picked count.
+-- The unit that is picked within a budget: it is coded,
+-- within the budget, and made of the picked count.
 use Rattle.std.proofs.Common.{◌≡◌, ℕ, ◌<◌, ◌≤◌, List, get_or, length, Some, refl, sym, ap, subst, ◌∙◌, arith}
 use Rattle.std.specs.Prelude.{ℤ, pos, All, Any}
 use Rattle.l3_base.specs.Spectrum.{IsLine}
@@ -13,7 +14,8 @@ use Rattle.l3_commit.specs.Units.{ChosenUnitsAreCoded, IsCountIn, unit_of, unit_
 use Rattle.l3_tables.specs.Bands.{band_edges}
 use Rattle.l3_commit.proofs.CodedUnits.{coded_at_gain}
 
--- what is picked: the gain is one of 0 to 255, the spectrum is codable there, and its count is within the budget
+-- what is picked: the gain is one of 0 to 255, the spectrum
+-- is codable there, and its count is within the budget
 record IsWithin (st : Settings) (budget : ℕ) (lines : List ℤ) : Type 0 where
   pub most : picked_gain (band_edges st.sample_rate) lines budget ≤ 255
   pub codable : IsCodable (pos (picked_gain (band_edges st.sample_rate) lines budget)) lines

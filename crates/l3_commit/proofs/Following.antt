@@ -33,7 +33,8 @@ start-is st n begin = refl
 end-is : (st : Settings) (n : ℕ) (f : ChosenFrame) → end_of st n f ≡ start_of st n f.begin + length (code_bits st f)
 end-is st n f = refl
 
--- places on the tape, by their numbers: slots before and of a frame, its begin, its bits, what they leave, and the next begin
+-- places on the tape, by their numbers: slots before and of a
+-- frame, its begin, its bits, what they leave, and the next begin
 record ArePlaced (slots slot begin bits next end : ℕ) : Type 0 where
   after : end ≤ 8 * (slots - begin)
   within : 8 * (slots - begin) + bits ≤ 8 * (slots + slot)
@@ -49,7 +50,8 @@ placed-by slots slot begin bits left next end there behind kept small = record {
   behind = omega arith;
 }
 
--- a frame with its begin, whose bits and what they leave are those that its begin reaches and its slot, and a begin that is left: the next frame can follow it too
+-- a frame with its begin, whose bits and what they leave are those that its begin reaches and its
+-- slot, and a begin that is left: the next frame can follow it too
 pub CanFollow-more : (st : Settings) (n begin left next : ℕ) (f : ChosenFrame) (fs : List ChosenFrame)
     → f.begin ≡ begin → begin ≤ 511 → IsCoded st f → length (code_bits st f) + left ≡ 8 * begin + 8 * slot_bytes_of st n → 8 * next ≤ left
     → CanFollow st n begin fs → CanFollow st (suc n) next (fs ++ (f ∷ []))

@@ -10,36 +10,36 @@ use Rattle.l3_reservoir.specs.Budget.{begin_after}
 use Rattle.l3_stream.specs.declared.unit.Unit.{Unit}
 use Rattle.l3_stream.specs.declared.unit.ChosenFrame.{ChosenFrame}
 use Rattle.l3_commit.specs.Choice.{Spectra, granule_by, reserve_by, granule_chosen, after_granule, reserve_between, reserve_at_end, first_granule, second_granule, begin_before, frame_chosen}
-use Rattle.l3_commit.specs.Tried.{tried_by, granule_tried, tried_at}
+use Rattle.l3_commit.specs.Tried.{granule_tried_by, granule_tried, tried_at}
 use Rattle.l3_commit.specs.Encoding.{of_channel, spectra_of}
 use Rattle.l3_commit.specs.Tracks.{TrackView, first_track, next_of, with_granule, with_frame_ended}
-use Rattle.l3_commit.specs.Standing.{CommitterView, HasCommitted, IsProgress, AreSame, StandsFor, StillStands, granules_for, total_of, lines_of, right_lines_of, gathered, granule_committed, frame_committed}
+use Rattle.l3_commit.specs.Standing.{CommitterView, HasCommitted, IsProgress, AreSameSpectra, StandsFor, StillStands, granules_for, total_of, spectra_at_hand, right_lines_of, gathered, granule_committed, frame_committed}
 
 -- ---- the spectra of channels that are not there do not count
 
-granule_by-same : (ch : Channels) (st : Settings) (n reserve : ℕ) (lines others : ℕ → List ℤ) → AreSame ch lines others → granule_by ch st n reserve lines ≡ granule_by ch st n reserve others
+granule_by-same : (ch : Channels) (st : Settings) (n reserve : ℕ) (lines others : ℕ → List ℤ) → AreSameSpectra ch lines others → granule_by ch st n reserve lines ≡ granule_by ch st n reserve others
 granule_by-same Mono st n reserve lines others same = rw same refl
 granule_by-same Stereo st n reserve lines others same = rw (same.0, same.1) refl
 
-pub granule-same : (st : Settings) (n reserve : ℕ) (lines others : ℕ → List ℤ) → AreSame st.channels lines others → granule_chosen st n reserve lines ≡ granule_chosen st n reserve others
+pub granule-same : (st : Settings) (n reserve : ℕ) (lines others : ℕ → List ℤ) → AreSameSpectra st.channels lines others → granule_chosen st n reserve lines ≡ granule_chosen st n reserve others
 unfolding granule_chosen
 granule-same st n reserve lines others same = granule_by-same st.channels st n reserve lines others same
 
-reserve_by-same : (ch : Channels) (st : Settings) (n reserve : ℕ) (lines others : ℕ → List ℤ) → AreSame ch lines others → reserve_by ch st n reserve lines ≡ reserve_by ch st n reserve others
+reserve_by-same : (ch : Channels) (st : Settings) (n reserve : ℕ) (lines others : ℕ → List ℤ) → AreSameSpectra ch lines others → reserve_by ch st n reserve lines ≡ reserve_by ch st n reserve others
 reserve_by-same Mono st n reserve lines others same = rw same refl
 reserve_by-same Stereo st n reserve lines others same = rw (same.0, same.1) refl
 
-pub after-same : (st : Settings) (n reserve : ℕ) (lines others : ℕ → List ℤ) → AreSame st.channels lines others → after_granule st n reserve lines ≡ after_granule st n reserve others
+pub after-same : (st : Settings) (n reserve : ℕ) (lines others : ℕ → List ℤ) → AreSameSpectra st.channels lines others → after_granule st n reserve lines ≡ after_granule st n reserve others
 unfolding after_granule
 after-same st n reserve lines others same = reserve_by-same st.channels st n reserve lines others same
 
-tried_by-same : (ch : Channels) (st : Settings) (n reserve : ℕ) (lines others : ℕ → List ℤ) → AreSame ch lines others → tried_by ch st n reserve lines ≡ tried_by ch st n reserve others
-tried_by-same Mono st n reserve lines others same = rw same refl
-tried_by-same Stereo st n reserve lines others same = rw (same.0, same.1) refl
+granule_tried_by-same : (ch : Channels) (st : Settings) (n reserve : ℕ) (lines others : ℕ → List ℤ) → AreSameSpectra ch lines others → granule_tried_by ch st n reserve lines ≡ granule_tried_by ch st n reserve others
+granule_tried_by-same Mono st n reserve lines others same = rw same refl
+granule_tried_by-same Stereo st n reserve lines others same = rw (same.0, same.1) refl
 
-pub tried-same : (st : Settings) (n reserve : ℕ) (lines others : ℕ → List ℤ) → AreSame st.channels lines others → granule_tried st n reserve lines ≡ granule_tried st n reserve others
+pub tried-same : (st : Settings) (n reserve : ℕ) (lines others : ℕ → List ℤ) → AreSameSpectra st.channels lines others → granule_tried st n reserve lines ≡ granule_tried st n reserve others
 unfolding granule_tried
-tried-same st n reserve lines others same = tried_by-same st.channels st n reserve lines others same
+tried-same st n reserve lines others same = granule_tried_by-same st.channels st n reserve lines others same
 
 -- ---- one more granule of a frame
 
@@ -73,13 +73,13 @@ committed-more st spectra n begin reserve (g ∷ []) few before = (
 )
 committed-more st spectra n begin reserve (g ∷ (h ∷ gs)) few before = absurd (omega arith)
 
-more-same : (st : Settings) (n reserve : ℕ) (gs : List (List Unit)) (lines others : ℕ → List ℤ) (P : List (List Unit) → ℕ → Type 0) → AreSame st.channels lines others
+more-same : (st : Settings) (n reserve : ℕ) (gs : List (List Unit)) (lines others : ℕ → List ℤ) (P : List (List Unit) → ℕ → Type 0) → AreSameSpectra st.channels lines others
     → P (gs ++ (granule_chosen st n reserve others ∷ [])) (after_granule st n reserve others) → P (gs ++ (granule_chosen st n reserve lines ∷ [])) (after_granule st n reserve lines)
 more-same st n reserve gs lines others P same p =
     subst (λ (r : ℕ). P (gs ++ (granule_chosen st n reserve lines ∷ [])) r) (sym (after-same st n reserve lines others same))
     (subst (λ (g : List Unit). P (gs ++ (g ∷ [])) (after_granule st n reserve others)) (sym (granule-same st n reserve lines others same)) p)
 
-pub progress-more : (st : Settings) (spectra : Spectra) (t : TrackView) (lines : ℕ → List ℤ) → length t.granules < 2 → AreSame st.channels lines (spectra (next_of t)) → IsProgress st spectra t
+pub progress-more : (st : Settings) (spectra : Spectra) (t : TrackView) (lines : ℕ → List ℤ) → length t.granules < 2 → AreSameSpectra st.channels lines (spectra (next_of t)) → IsProgress st spectra t
     → IsProgress st spectra (with_granule t lines)
 progress-more st spectra t lines few same p =
     let begin = begin_before st spectra t.frame in
@@ -137,8 +137,8 @@ frame-is-chosen st spectra t two p =
 pub stands-gathered : (c : CommitterView) → next_of c.track < total_of c → StillStands c (gathered c)
 stands-gathered c below st left right s =
     let P : Channels → Type 0 =
-    λ ch. AreSame ch (of_channel (spectrum_of_granule c.left (next_of c.track)) (right_lines_of ch c.right_lines (spectrum_of_granule c.right (next_of c.track)))) (spectra_of c.left c.right (next_of c.track)) in
-    let Q : Channels → Type 0 = λ ch. AreSame st.channels (lines_of (gathered c)) (spectra_of left right (next_of c.track)) in
+    λ ch. AreSameSpectra ch (of_channel (spectrum_of_granule c.left (next_of c.track)) (right_lines_of ch c.right_lines (spectrum_of_granule c.right (next_of c.track)))) (spectra_of c.left c.right (next_of c.track)) in
+    let Q : Channels → Type 0 = λ ch. AreSameSpectra st.channels (spectra_at_hand (gathered c)) (spectra_of left right (next_of c.track)) in
     record {
       left_is = s.left_is;
       right_is = s.right_is;
@@ -148,7 +148,7 @@ stands-gathered c below st left right s =
     }
   where
     at-hand : (ch own : Channels) (a b left right old : List ℤ) (g : ℕ) → own ≡ ch → a ≡ left → b ≡ right
-        → AreSame ch (of_channel (spectrum_of_granule a g) (right_lines_of own old (spectrum_of_granule b g))) (spectra_of left right g)
+        → AreSameSpectra ch (of_channel (spectrum_of_granule a g) (right_lines_of own old (spectrum_of_granule b g))) (spectra_of left right g)
     at-hand Mono own a b left right old g e l r = ap (λ p. spectrum_of_granule p g) l
     at-hand Stereo own a b left right old g e l r =
         (ap (λ p. spectrum_of_granule p g) l, ap (λ (ch : Channels). right_lines_of ch old (spectrum_of_granule b g)) e ∙ ap (λ p. spectrum_of_granule p g) r)
@@ -162,13 +162,13 @@ frame-within frame few total le e = omega arith
 pub stands-granule : (c : CommitterView) → c.is_ready ≡ true → next_of c.track < total_of c → length c.track.granules < 2 → StillStands c (granule_committed c)
 stands-granule c ready below few st left right s =
     let t = c.track in
-    let g = granule_chosen t.settings t.frame t.reserve (lines_of c) in
+    let g = granule_chosen t.settings t.frame t.reserve (spectra_at_hand c) in
     let total : next_of t < granules_for (length left) = subst (λ (p : List ℤ). next_of t < granules_for (length p)) s.left_is below in
     record {
       left_is = s.left_is;
       right_is = s.right_is;
       within = granule-within t.frame (length t.granules) (granules_for (length left)) (length (t.granules ++ (g ∷ []))) total (length-append t.granules (g ∷ []));
-      progress = progress-more st (spectra_of left right) t (lines_of c) few (s.ready ready) s.progress;
+      progress = progress-more st (spectra_of left right) t (spectra_at_hand c) few (s.ready ready) s.progress;
       ready = λ not. absurd (cc);
     }
 
@@ -197,7 +197,7 @@ stands-opened st left right c l r not_ready start = record {
   ready = λ ready. absurd (cc);
 }
 
-pub granule-view : (c now : CommitterView) (t : TrackView) → c ≡ now → t ≡ with_granule c.track (lines_of c)
+pub granule-view : (c now : CommitterView) (t : TrackView) → c ≡ now → t ≡ with_granule c.track (spectra_at_hand c)
     → (let made : CommitterView = record c { is_ready = false; track = t } in made ≡ granule_committed now)
 granule-view c now t is e = rw e (ap granule_committed is)
 
@@ -227,12 +227,12 @@ tried-committed st spectra n reserve [] few before =
 tried-committed st spectra n reserve (g ∷ []) few before = ap (λ r. granule_tried st n r (spectra (2 * n + 1))) before.1 ∙ tried_at-second st spectra n
 tried-committed st spectra n reserve (g ∷ (h ∷ gs)) few before = absurd (omega arith)
 
-pub tried-progress : (st : Settings) (spectra : Spectra) (t : TrackView) (lines : ℕ → List ℤ) → length t.granules < 2 → AreSame st.channels lines (spectra (next_of t)) → IsProgress st spectra t
+pub tried-progress : (st : Settings) (spectra : Spectra) (t : TrackView) (lines : ℕ → List ℤ) → length t.granules < 2 → AreSameSpectra st.channels lines (spectra (next_of t)) → IsProgress st spectra t
     → granule_tried t.settings t.frame t.reserve lines ≡ tried_at st spectra t.frame (length t.granules)
 tried-progress st spectra t lines few same p =
     ap (λ (s : Settings). granule_tried s t.frame t.reserve lines) p.settings
     ∙ (tried-same st t.frame t.reserve lines (spectra (next_of t)) same ∙ tried-committed st spectra t.frame t.reserve t.granules few p.units)
 
 pub stands-tried : (c : CommitterView) (st : Settings) (left right : List ℤ) → c.is_ready ≡ true → length c.track.granules < 2 → StandsFor c st left right
-    → granule_tried c.track.settings c.track.frame c.track.reserve (lines_of c) ≡ tried_at st (spectra_of left right) c.track.frame (length c.track.granules)
-stands-tried c st left right ready few s = tried-progress st (spectra_of left right) c.track (lines_of c) few (s.ready ready) s.progress
+    → granule_tried c.track.settings c.track.frame c.track.reserve (spectra_at_hand c) ≡ tried_at st (spectra_of left right) c.track.frame (length c.track.granules)
+stands-tried c st left right ready few s = tried-progress st (spectra_of left right) c.track (spectra_at_hand c) few (s.ready ready) s.progress

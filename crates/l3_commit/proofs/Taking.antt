@@ -12,7 +12,7 @@ use Rattle.l3_stream.specs.Frames.{blank}
 use Rattle.l3_commit.specs.Units.{unit_within}
 use Rattle.l3_tables.specs.Bands.{band_edges}
 use Rattle.l3_commit.specs.Choice.{budget_at, unit_chosen, after_unit, granule_by, reserve_by, granule_chosen, after_granule}
-use Rattle.l3_commit.specs.Tried.{unit_tried, tried_by, granule_tried}
+use Rattle.l3_commit.specs.Tried.{unit_tried, granule_tried_by, granule_tried}
 
 -- a unit is the chosen one, with the reserve after it and the gains that it tries
 pub record IsTaken (st : Settings) (n reserve : ℕ) (lines : List ℤ) (u : Unit) (after tried : ℕ) : Type 0 where
@@ -44,12 +44,12 @@ pub record IsGranule (st : Settings) (n reserve : ℕ) (lines : ℕ → List ℤ
   pub tried_is : tried ≡ granule_tried st n reserve lines
 
 granule-by : (st : Settings) (n reserve : ℕ) (lines : ℕ → List ℤ) (units : List Unit) (after tried : ℕ) (ch : Channels) → st.channels ≡ ch → units ≡ granule_by ch st n reserve lines
-    → after ≡ reserve_by ch st n reserve lines → tried ≡ tried_by ch st n reserve lines → IsGranule st n reserve lines units after tried
+    → after ≡ reserve_by ch st n reserve lines → tried ≡ granule_tried_by ch st n reserve lines → IsGranule st n reserve lines units after tried
 unfolding granule_chosen after_granule granule_tried
 granule-by st n reserve lines units after tried ch e units_are after_is tried_is = record {
   units_are = units_are ∙ sym (ap (λ (c : Channels). granule_by c st n reserve lines) e);
   after_is = after_is ∙ sym (ap (λ (c : Channels). reserve_by c st n reserve lines) e);
-  tried_is = tried_is ∙ sym (ap (λ (c : Channels). tried_by c st n reserve lines) e);
+  tried_is = tried_is ∙ sym (ap (λ (c : Channels). granule_tried_by c st n reserve lines) e);
 }
 
 pub granule-mono : (st : Settings) (n reserve : ℕ) (lines : ℕ → List ℤ) (units : List Unit) (u none : Unit) (after tried : ℕ) → st.channels ≡ Mono → length units ≡ 2

@@ -1,5 +1,6 @@
--- The chosen frames: in each frame, granule after granule and in it channel after channel, a unit takes the least gain
--- within its budget under the reserve that the units before it left (ISO/IEC 11172-3, 2.4, the main data; Annex C).
+-- The chosen frames: in each frame, granule after granule and in it channel after channel, a unit
+-- takes the least gain within its budget under the reserve that the units before it left (ISO/IEC
+-- 11172-3, 2.4, the main data; Annex C).
 use Rattle.std.specs.Prelude.{ℕ, zero, suc, ◌+◌, ◌*◌, List, [], ◌∷◌, ◌++◌, ℤ}
 use Rattle.l3_base.specs.declared.settings.Settings.{Settings}
 use Rattle.l3_base.specs.declared.rate.Channels.{Channels}
@@ -47,7 +48,8 @@ granule_chosen st n reserve lines = granule_by st.channels st n reserve lines
 unfoldable pub after_granule : Settings → (n reserve : ℕ) → (ℕ → List ℤ) → ℕ
 after_granule st n reserve lines = reserve_by st.channels st n reserve lines
 
--- the reserve of frame n before its first granule, in bits: the bytes that its main data begins before its slot
+-- the reserve of frame n before its first granule, in bits:
+-- the bytes that its main data begins before its slot
 abbrev pub reserve_at_start : ℕ → ℕ
 reserve_at_start begin = 8 * begin
 
@@ -70,7 +72,8 @@ second_granule st spectra n begin = granule_chosen st n (reserve_between st spec
 abbrev pub frame_from : Settings → Spectra → (n begin : ℕ) → ChosenFrame
 frame_from st spectra n begin = record { begin = begin; units = first_granule st spectra n begin ∷ second_granule st spectra n begin ∷ [] }
 
--- main_data_begin of frame n: 0 at the first frame, and else the whole bytes that the frame before left, as far as the field and decoders reach
+-- main_data_begin of frame n: 0 at the first frame, and else the whole bytes that the frame before
+-- left, as far as the field and decoders reach
 unfoldable pub begin_before : Settings → Spectra → ℕ → ℕ
 begin_before st spectra zero = 0
 begin_before st spectra (suc n) = begin_after (reserve_at_end st spectra n (begin_before st spectra n)) (mmax_of st)
@@ -85,9 +88,9 @@ frames_before st spectra zero = []
 frames_before st spectra (suc n) = frames_before st spectra n ++ (frame_chosen st spectra n ∷ [])
 
 -- so many frames from frame n on
-unfoldable pub frames_from : Settings → Spectra → (n many : ℕ) → List ChosenFrame
-frames_from st spectra n zero = []
-frames_from st spectra n (suc many) = frame_chosen st spectra n ∷ frames_from st spectra (suc n) many
+unfoldable pub frames_chosen_from : Settings → Spectra → (n many : ℕ) → List ChosenFrame
+frames_chosen_from st spectra n zero = []
+frames_chosen_from st spectra n (suc many) = frame_chosen st spectra n ∷ frames_chosen_from st spectra (suc n) many
 
 -- the spectra of the channels that are there are 576 lines, each below 2^29 in absolute value
 abbrev pub AreOfChannels : Channels → (ℕ → List ℤ) → Type 0

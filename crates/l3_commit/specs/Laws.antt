@@ -17,7 +17,8 @@ use Rattle.l3_commit.specs.Following.{CanFollow}
 abbrev pub AreSpectra : Spectra → Type 0
 AreSpectra spectra = (granule channel : ℕ) → IsSpectrum (spectra granule channel)
 
--- the chosen frame is coded, with as many code bits as its units' part2_3_length say, and its main data begins within the tape before its slot
+-- the chosen frame is coded, with as many code bits as its units' part2_3_length say, and its main
+-- data begins within the tape before its slot
 pub record IsChosenWell (st : Settings) (spectra : Spectra) (n : ℕ) : Type 0 where
   pub coded : IsCoded st (frame_chosen st spectra n)
   pub bits : length (code_bits st (frame_chosen st spectra n)) ≡ lengths (units_of st.channels (frame_chosen st spectra n).units)

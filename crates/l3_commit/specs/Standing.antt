@@ -32,8 +32,8 @@ granules_for samples = 2 * frames_for samples
 abbrev pub total_of : CommitterView → ℕ
 total_of c = granules_for (length c.left)
 
--- the units of frame n, so far as its granules are committed, and the reserve that they left. After the second granule the
--- frame is not ended yet: its reserve is that before its end
+-- the units of frame n, so far as its granules are committed, and the reserve that they left. After
+-- the second granule the frame is not ended yet: its reserve is that before its end
 abbrev pub HasCommitted : Settings → Spectra → (n begin : ℕ) → List (List Unit) → (reserve : ℕ) → Type 0
 HasCommitted st spectra n begin [] reserve = reserve ≡ reserve_at_start begin
 HasCommitted st spectra n begin (g ∷ []) reserve = (g ≡ first_granule st spectra n begin) × (reserve ≡ reserve_between st spectra n begin)
@@ -48,13 +48,13 @@ pub record IsProgress (st : Settings) (spectra : Spectra) (t : TrackView) : Type
   pub units : HasCommitted st spectra t.frame (begin_before st spectra t.frame) t.granules t.reserve
 
 -- the same spectra of the channels that are there
-abbrev pub AreSame : Channels → (lines others : ℕ → List ℤ) → Type 0
-AreSame Mono lines others = lines 0 ≡ others 0
-AreSame Stereo lines others = (lines 0 ≡ others 0) × (lines 1 ≡ others 1)
+abbrev pub AreSameSpectra : Channels → (lines others : ℕ → List ℤ) → Type 0
+AreSameSpectra Mono lines others = lines 0 ≡ others 0
+AreSameSpectra Stereo lines others = (lines 0 ≡ others 0) × (lines 1 ≡ others 1)
 
 -- the spectra at hand
-abbrev pub lines_of : CommitterView → ℕ → List ℤ
-lines_of c = of_channel c.left_lines c.right_lines
+abbrev pub spectra_at_hand : CommitterView → ℕ → List ℤ
+spectra_at_hand c = of_channel c.left_lines c.right_lines
 
 -- its settings, its samples, where its choice of frames stands, and what it has at hand
 pub record StandsFor (c : CommitterView) (st : Settings) (left right : List ℤ) : Type 0 where
@@ -62,7 +62,7 @@ pub record StandsFor (c : CommitterView) (st : Settings) (left right : List ℤ)
   pub right_is : c.right ≡ right
   pub within : next_of c.track ≤ granules_for (length left)
   pub progress : IsProgress st (spectra_of left right) c.track
-  pub ready : c.is_ready ≡ true → AreSame st.channels (lines_of c) (spectra_of left right (next_of c.track))
+  pub ready : c.is_ready ≡ true → AreSameSpectra st.channels (spectra_at_hand c) (spectra_of left right (next_of c.track))
 
 -- in mono the right spectrum stays, and else it is the new one
 abbrev pub right_lines_of : Channels → (old new : List ℤ) → List ℤ
@@ -79,7 +79,7 @@ gathered c = record c {
 
 -- after the granule was committed
 abbrev pub granule_committed : CommitterView → CommitterView
-granule_committed c = record c { is_ready = false; track = with_granule c.track (lines_of c) }
+granule_committed c = record c { is_ready = false; track = with_granule c.track (spectra_at_hand c) }
 
 -- after the frame was ended
 abbrev pub frame_committed : CommitterView → CommitterView

@@ -12,7 +12,8 @@ use Rattle.l3_commit.specs.Choice.{granule_chosen, after_granule}
 
 pub record TrackView : Type 0 where
   pub settings : Settings
-  -- the frame that is begun, its main_data_begin, and the reserve in bits before the granule that comes next
+  -- the frame that is begun, its main_data_begin, and the
+  -- reserve in bits before the granule that comes next
   pub frame : ℕ
   pub begin : ℕ
   pub reserve : ℕ

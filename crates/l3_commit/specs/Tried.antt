@@ -1,4 +1,5 @@
--- How many gains the choice of frames tries: for each unit those from its first gain to the picked one.
+-- How many gains the choice of frames tries: for each
+-- unit those from its first gain to the picked one.
 use Rattle.std.specs.Prelude.{ℕ, zero, suc, ◌+◌, ◌*◌, List, ℤ}
 use Rattle.l3_base.specs.declared.settings.Settings.{Settings}
 use Rattle.l3_base.specs.declared.rate.Channels.{Channels}
@@ -12,12 +13,12 @@ unfoldable pub unit_tried : Settings → (n reserve : ℕ) → List ℤ → ℕ
 unit_tried st n reserve lines = tried_of (band_edges st.sample_rate) lines (budget_at st n reserve lines)
 
 -- at a granule of frame n
-abbrev pub tried_by : Channels → Settings → (n reserve : ℕ) → (ℕ → List ℤ) → ℕ
-tried_by Mono st n reserve lines = unit_tried st n reserve (lines 0)
-tried_by Stereo st n reserve lines = unit_tried st n reserve (lines 0) + unit_tried st n (after_unit st n reserve (lines 0)) (lines 1)
+abbrev pub granule_tried_by : Channels → Settings → (n reserve : ℕ) → (ℕ → List ℤ) → ℕ
+granule_tried_by Mono st n reserve lines = unit_tried st n reserve (lines 0)
+granule_tried_by Stereo st n reserve lines = unit_tried st n reserve (lines 0) + unit_tried st n (after_unit st n reserve (lines 0)) (lines 1)
 
 unfoldable pub granule_tried : Settings → (n reserve : ℕ) → (ℕ → List ℤ) → ℕ
-granule_tried st n reserve lines = tried_by st.channels st n reserve lines
+granule_tried st n reserve lines = granule_tried_by st.channels st n reserve lines
 
 -- at frame n's first granule, which is its granule 0, or at its second
 unfoldable pub tried_at : Settings → Spectra → (n granule : ℕ) → ℕ

@@ -1,4 +1,5 @@
--- What a unit takes within a budget: the count at the picked gain, and the quantised values that it counts.
+-- What a unit takes within a budget: the count at the
+-- picked gain, and the quantised values that it counts.
 use Rattle.std.specs.Prelude.{◌≡◌, ◌≤◌, ℕ, List, length, Some, ℤ, pos, All}
 use Rattle.l3_base.specs.Spectrum.{IsLine}
 use Rattle.l3_base.specs.declared.settings.Settings.{Settings}
@@ -35,7 +36,8 @@ unit_within st budget lines = unit_at_gain st (picked_gain (band_edges st.sample
 abbrev pub IsCountIn : List ℤ → Counted → Type 0
 IsCountIn lines c = (edges : List ℕ) × (count_of edges lines c.gain ≡ Some c)
 
--- a unit is coded, within a budget, at the picked gain, and its lines are the quantised values there
+-- a unit is coded, within a budget, at the picked
+-- gain, and its lines are the quantised values there
 pub record IsChosenUnit (st : Settings) (budget : ℕ) (lines : List ℤ) (u : Unit) : Type 0 where
   pub coded : IsCodedUnit st u
   pub within : u.length ≤ budget

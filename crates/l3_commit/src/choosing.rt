@@ -58,7 +58,8 @@ fn budget(reserve: &Reserve, place: Place, spec: &Spectrum) -> u32
     )
 }
 
-// Writes the unit that is picked within a budget, and takes its bits. The answer is how many gains were tried.
+// Writes the unit that is picked within a budget, and
+// takes its bits. The answer is how many gains were tried.
 fn choose<L: Ledger + Send>(
     reserve: &mut Reserve,
     place: Place,
@@ -81,6 +82,7 @@ fn choose<L: Ledger + Send>(
     ensures ticks { steps.new ≡ steps.old + result }
 {
     memo.clear();
+    // For the proof alone: that the spectrum has its shape and range.
     let _lines = spec.lines();
     let picked = pick(spec, place.settings.sample_rate, budget, memo, steps);
     reserve.spend(&place.settings, place.frame, picked.count.bits());
@@ -88,7 +90,8 @@ fn choose<L: Ledger + Send>(
     picked.made
 }
 
-// Writes the units of a granule under the reserve before it. The answer is how many gains were tried.
+// Writes the units of a granule under the reserve
+// before it. The answer is how many gains were tried.
 pub(crate) fn choose_granule<L: Ledger + Send>(
     reserve: &mut Reserve,
     place: Place,

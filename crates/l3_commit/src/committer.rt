@@ -1,4 +1,4 @@
-ghost use Rattle.std.specs.Prelude.{◌≡◌, ◌+◌, ◌*◌, ◌≤◌, ◌<◌, ◌^◌, ◌++◌, ◌∷◌, [], ℕ, ℤ, List, length, true, false, IfSome, IfNone, IfOk};
+ghost use Rattle.std.specs.Prelude.{◌≡◌, ◌+◌, ◌*◌, ◌≤◌, ◌<◌, ◌^◌, ◌++◌, ◌∷◌, [], ℕ, ℤ, List, length, true, false, IfSome, IfNone};
 ghost use Rattle.std.specs.Borrow.{sem};
 ghost use Rattle.l3_base.specs.Lengths.{mmax_of};
 ghost use Rattle.l3_base.specs.declared.settings.Settings.{Settings};
@@ -20,7 +20,6 @@ use l3_polyphase::slots36;
 use l3_search::Memo;
 use l3_stream::ChosenFrame;
 use l3_wav::Pcm;
-use std::alloc::{AllocError, Global};
 use std::marker::Model;
 use std::sync::ledger::Ledger;
 
@@ -95,16 +94,16 @@ fn no_window() -> [i16; 1632] {
 impl Committer {
     ghost use Rattle.l3_commit.specs.Resting.{RestsCommitter};
 
-    /// Before the first granule of these samples, of which `left` has at most 2147483647, and `right` none in mono and else as many.
-    pub fn open(alloc: Global, settings: Settings, pcm: Pcm) -> Result<Committer, AllocError>
+    /// Before the first granule of these samples, of which `left` has at most 2147483647, and
+    /// `right` none in mono and else as many.
+    pub fn open(settings: Settings, pcm: Pcm) -> Committer
         requires few { length pcm.left.items ≤ 2147483647 }
         requires shape { IsRightOf settings.channels pcm.left.items pcm.right.items }
-        ensures stands { IfOk result (λ c. StandsFor c settings pcm.left.items pcm.right.items) }
-        ensures first { IfOk result (λ c. c.track ≡ first_track settings) }
-        ensures ready { IfOk result (λ c. c.is_ready ≡ false) }
+        ensures stands { StandsFor result settings pcm.left.items pcm.right.items }
+        ensures first { result.track ≡ first_track settings }
+        ensures ready { result.is_ready ≡ false }
     {
-        let _ = alloc;
-        Ok(Committer {
+        Committer {
             track: Track::new(settings),
             pcm,
             is_ready: false,
@@ -113,7 +112,7 @@ impl Committer {
             window: no_window(),
             slots: Slots36::zero(),
             memo: Memo::new(),
-        })
+        }
     }
 
     /// The granule to commit next, or `None` where all of them are committed.
@@ -160,7 +159,8 @@ impl Committer {
         self.is_ready = true;
     }
 
-    /// Commits the granule that is at hand: each channel's unit is the one picked within its budget under the reserve.
+    /// Commits the granule that is at hand: each channel's unit
+    /// is the one picked within its budget under the reserve.
     pub fn commit_granule<L: Ledger + Send>(&mut self, steps: &mut Steps<L>) -> GranuleDone
         requires ready { self.old.is_ready ≡ true }
         requires there { next_of self.old.track < total_of self.old }
@@ -186,7 +186,8 @@ impl Committer {
         )
     }
 
-    /// Ends the frame whose second granule was committed last, by the rule of the reservoir, and lends it out.
+    /// Ends the frame whose second granule was committed
+    /// last, by the rule of the reservoir, and lends it out.
     ///
     /// Whatever frames it can follow, the next frame can follow them and it.
     pub fn commit_frame(&mut self) -> &ChosenFrame

@@ -1,6 +1,7 @@
 ghost use Rattle.l3_commit.specs.Laws.{ChosenWell, ChosenFollow, ChosenFit, ChosenAlone};
 
-/// The chosen frames of any settings and samples fit one after the other, and so they spell the encoding.
+/// The chosen frames of any settings and samples fit
+/// one after the other, and so they spell the encoding.
 pub fn chosen_frames_fit()
     ensures well { ChosenWell }
     ensures follow { ChosenFollow }

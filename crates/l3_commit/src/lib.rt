@@ -1,8 +1,10 @@
 //! Samples -> the chosen frames, one after the other.
 //!
-//! What stands in each frame, as mathematics and as code: granule by granule the spectra of the samples, and for each unit
-//! the least gain within its budget of the bit reservoir (ISO/IEC 11172-3, 2.4; how a budget is found is this project's own).
-//! Before: `l3_wav`, which reads samples; the transforms; the search for a gain. After: the encoder, which writes the frames.
+//! What stands in each frame, as mathematics and as code: granule by granule the spectra of the
+//! samples, and for each unit the least gain within its budget of the bit reservoir (ISO/IEC
+//! 11172-3, 2.4; how a budget is found is this project's own).
+//! Before: `l3_wav`, which reads samples; the transforms; the search for a gain. After: the
+//! encoder, which writes the frames.
 #![tactic(auto)]
 
 mod choosing;

@@ -2,6 +2,9 @@ use l3_wav::WavFault;
 use thiserror::Error;
 
 /// What an encoding took.
+///
+/// It stands here and not beside the encoder, as `EncodeFault` does, because whatever else encodes
+/// by these rules gives it too, without standing on `l3_encoder`.
 #[derive(Clone, Copy, Debug, PartialEq, Eq)]
 pub struct Report {
     /// Frames written.
@@ -12,7 +15,7 @@ pub struct Report {
     pub made: u64,
 }
 
-/// Why an encoding was given up.
+/// Why an encoding was given up. It stands here for the reason that is told at `Report`.
 #[derive(Clone, Copy, Debug, PartialEq, Eq, Error)]
 pub enum EncodeFault {
     /// There is no memory, and nothing was written.

@@ -10,7 +10,8 @@ use std::alloc::{AllocError, Global};
 use std::marker::Brand;
 use std::sync::ledger::{Blank, Ledger};
 
-// global_gain, part2_3_length; big_values and quadruples; region0_count and region1_count; table_select; count1table_select
+// global_gain, part2_3_length; big_values and quadruples; region0_count and region1_count;
+// table_select; count1table_select
 type Numbers = (u8, u16, [u16; 2], [u8; 2], [u8; 3], QuadTable);
 
 // main_data_begin, units, gains tried
@@ -39,6 +40,7 @@ fn next_frame<L: Ledger + Send>(committer: &mut Committer, steps: &mut Steps<L>)
     ensures start { length committer.new.track.granules ≡ 0 }
     ensures ready { committer.new.is_ready ≡ false }
 {
+    // For the proof alone: that there is a next granule.
     let _number = committer.next()?;
     committer.gather_alone();
     let first = committer.commit_granule(steps);
@@ -53,13 +55,9 @@ fn next_frame<L: Ledger + Send>(committer: &mut Committer, steps: &mut Steps<L>)
     ))
 }
 
-// The frames of these samples, counted by a counter of their own: the first four where there are as many.
-fn frames<L: Ledger + Send>(
-    blank: Blank,
-    alloc: Global,
-    settings: Settings,
-    pcm: Pcm,
-) -> Result<[Option<Frame>; 4], AllocError>
+// The frames of these samples, counted by a counter of
+// their own: the first four where there are as many.
+fn frames<L: Ledger + Send>(blank: Blank, settings: Settings, pcm: Pcm) -> [Option<Frame>; 4]
     requires name { blank.name ≡ L.name }
     requires parts { blank.parts ≡ L.parts }
     requires some { 0 < blank.parts }
@@ -67,12 +65,12 @@ fn frames<L: Ledger + Send>(
     requires shape { IsRightOf settings.channels pcm.left.items pcm.right.items }
 {
     let mut steps: Steps<L> = Steps::start(blank);
-    let mut committer = Committer::open(alloc, settings, pcm)?;
+    let mut committer = Committer::open(settings, pcm);
     let first = next_frame(&mut committer, &mut steps);
     let second = next_frame(&mut committer, &mut steps);
     let third = next_frame(&mut committer, &mut steps);
     let fourth = next_frame(&mut committer, &mut steps);
-    Ok([first, second, third, fourth])
+    [first, second, third, fourth]
 }
 
 // 2304 samples of one channel, all 0 but sample 700.
@@ -90,7 +88,8 @@ fn impulse(alloc: Global) -> Result<Pcm, AllocError>
     })
 }
 
-// 2304 samples of two channels, the right at half the left: seven steps of 97 samples each, again and again.
+// 2304 samples of two channels, the right at half the
+// left: seven steps of 97 samples each, again and again.
 fn steps(alloc: Global) -> Result<Pcm, AllocError>
     ensures few { IfOk result (λ pcm. length pcm.left.items ≤ 2147483647) }
     ensures shape { IfOk result (λ pcm. length pcm.right.items ≡ length pcm.left.items) }
@@ -113,7 +112,7 @@ fn units_of_an_impulse(rt: HostRuntime) -> Result<(), AllocError> {
         channels: Channels::Mono,
     };
     let pcm = impulse(rt.alloc())?;
-    let found = frames::<Brand>(Blank::new(1), rt.alloc(), settings, pcm)?;
+    let found = frames::<Brand>(Blank::new(1), settings, pcm);
     let expected = [
         Some((
             0,
@@ -146,7 +145,7 @@ fn units_of_steps(rt: HostRuntime) -> Result<(), AllocError> {
         channels: Channels::Stereo,
     };
     let pcm = steps(rt.alloc())?;
-    let found = frames::<Brand>(Blank::new(1), rt.alloc(), settings, pcm)?;
+    let found = frames::<Brand>(Blank::new(1), settings, pcm);
     let expected = Some((
         14,
         [

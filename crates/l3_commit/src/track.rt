@@ -99,6 +99,7 @@ impl Track {
         ensures made { result.made ≡ result.tried }
         ensures ticks { steps.new ≡ steps.old + result.made }
     {
+        // For the proof alone: that a granule with this number is below the limit.
         let _number = number.get();
         let at = usize::from(self.done);
         let place = Place {
@@ -118,7 +119,8 @@ impl Track {
         GranuleDone { made: tried, tried }
     }
 
-    // Ends the frame and lends it out. Whatever frames it can follow, the next frame can follow them and it.
+    // Ends the frame and lends it out. Whatever frames it
+    // can follow, the next frame can follow them and it.
     pub(crate) fn commit_frame(&mut self) -> &ChosenFrame
         requires { length self.old.granules ≡ 2 }
         ensures frame { result.now ≡ record { begin = self.old.begin; units = self.old.granules } }

@@ -9,7 +9,8 @@ use l3_quant::all;
 use l3_search::Count;
 use l3_stream::Unit;
 
-// Writes the unit of a count of this spectrum: the fields that the count says, and the quantised values of the lines at its gain.
+// Writes the unit of a count of this spectrum: the fields that the count says, and the quantised
+// values of the lines at its gain.
 pub(crate) fn write_unit(spec: &Spectrum, count: &Count, unit: &mut Unit)
     requires own { IsCountIn spec.now count.now }
     ensures { unit.new ≡ unit_of count.now (quantised_lines (pos count.now.gain) spec.now) }
@@ -31,7 +32,8 @@ pub(crate) fn write_unit(spec: &Spectrum, count: &Count, unit: &mut Unit)
     unit.quad = regions.quad;
 }
 
-/// A unit that is picked within a budget of at most 4095 bits is coded, is within the budget, and holds the quantised values at its gain.
+/// A unit that is picked within a budget of at most 4095 bits is coded, is within the budget, and
+/// holds the quantised values at its gain.
 pub fn chosen_units_are_coded()
     ensures { ChosenUnitsAreCoded }
 {}

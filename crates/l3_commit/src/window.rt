@@ -28,7 +28,8 @@ fn fill_at_an_end(window: &mut [i16; 1632], samples: &[i16], granule: u64)
     }
 }
 
-// Fills in the window of a granule: the 1632 samples from 1056 before its own first one on, 0 outside the samples.
+// Fills in the window of a granule: the 1632 samples from
+// 1056 before its own first one on, 0 outside the samples.
 pub(crate) fn fill(window: &mut [i16; 1632], samples: &[i16], granule: u64)
     requires { granule ≤ 8589934592 }
     ensures { window.new ≡ window_of samples.now granule }

@@ -1,7 +1,3 @@
 pub mod Rest
 pub mod Going
 pub mod Counting
-pub mod SilentSpectrum
-pub mod SilentUnits
-pub mod SilentFrames
-pub mod SilentStream

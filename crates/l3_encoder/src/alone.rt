@@ -29,7 +29,7 @@ pub fn encode_alone<S: Source, K: Sink, L: Ledger + Send>(
     ensures ticks { IfOk result (λ report. steps.new ≡ steps.old + report.made) }
 {
     match read_input(alloc, rate, source) {
-        Ok(input) => encode_pcm(alloc, input.settings, input.pcm, sink, steps),
+        Ok(input) => encode_pcm(input.settings, input.pcm, sink, steps),
         Err(fault) => Err(fault),
     }
 }

@@ -6,12 +6,10 @@
 
 mod alone;
 mod input;
-mod laws;
 mod stream;
 
 pub use alone::encode_alone;
 pub use l3_commit::{EncodeFault, Report};
-pub use laws::zeros_encode_to_silence;
 
 #[cfg(test)]
 mod tests;

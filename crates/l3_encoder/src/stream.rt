@@ -12,7 +12,6 @@ use l3_commit::{Committer, EncodeFault, Report};
 use l3_frames::FrameWriter;
 use l3_io::Sink;
 use l3_wav::Pcm;
-use std::alloc::Global;
 use std::sync::ledger::Ledger;
 
 // Commits granule after granule, and gives each frame to the sink once its second granule is committed.
@@ -58,7 +57,6 @@ fn write_frames<K: Sink, L: Ledger + Send>(
 /// Gives the encoding of samples of 16 bits to a sink. Of `left` there are at most 2147483647, and of `right` none in mono
 /// and else as many.
 pub fn encode_pcm<K: Sink, L: Ledger + Send>(
-    alloc: Global,
     settings: Settings,
     pcm: Pcm,
     sink: &mut K,
@@ -72,10 +70,7 @@ pub fn encode_pcm<K: Sink, L: Ledger + Send>(
     ensures later { K.faults sink.old ≤ K.faults sink.new }
     ensures ticks { IfOk result (λ report. steps.new ≡ steps.old + report.made) }
 {
-    let Ok(committer) = Committer::open(alloc, settings, pcm) else {
-        return Err(EncodeFault::Memory);
-    };
-    match write_frames(settings, committer, sink, steps) {
+    match write_frames(settings, Committer::open(settings, pcm), sink, steps) {
         Ok(report) => Ok(report),
         Err(_) => Err(EncodeFault::Write),
     }

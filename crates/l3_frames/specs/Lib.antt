@@ -1,4 +1,3 @@
-pub mod Silence
 pub mod Writing
 pub mod Laying
 pub mod Pending

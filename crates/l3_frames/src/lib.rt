@@ -1,4 +1,4 @@
-//! Frames -> bytes at a sink: the writer of chosen frames, and what the stream of silence is.
+//! Frames -> bytes at a sink: the writer of chosen frames.
 //!
 //! The main data of a frame may begin in the slots of the frames before it (ISO/IEC 11172-3, 2.4,
 //! main_data_begin), so a frame is given once no later frame can reach into its slot; the bytes

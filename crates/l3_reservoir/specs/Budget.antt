@@ -1,5 +1,6 @@
--- What a unit may take of the bit reservoir, and what the end of a frame leaves of it (ISO/IEC 11172-3, Annex C,
--- C.1.5.4; the numbers 100, six tenths and eight tenths are this project's own). All in bits, but begins in bytes.
+-- What a unit may take of the bit reservoir, and what the end of a frame leaves of it (ISO/IEC
+-- 11172-3, Annex C, C.1.5.4; the numbers 100, six tenths and eight tenths are this project's own).
+-- All in bits, but begins in bytes.
 use Rattle.std.specs.Prelude.{ℕ, ◌+◌, ◌-◌, ◌*◌, ◌/◌, max, min, nat_le, if◌then◌else◌}
 
 -- what a demand is above the mean, where that is more than 100 bits, and else nothing
@@ -20,7 +21,8 @@ budget_of reserve mean begin_limit demand = min (mean + borrowed reserve mean be
 abbrev pub left_by : (reserve mean used : ℕ) → ℕ
 left_by reserve mean used = reserve + mean - used
 
--- main_data_begin of the next frame: the whole bytes of the reserve, up to the greatest main_data_begin
+-- main_data_begin of the next frame: the whole bytes
+-- of the reserve, up to the greatest main_data_begin
 abbrev pub begin_after : (reserve begin_limit : ℕ) → ℕ
 begin_after reserve begin_limit = min (reserve / 8) begin_limit
 

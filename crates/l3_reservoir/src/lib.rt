@@ -1,7 +1,8 @@
-//! A unit's bit demand and the bit reservoir's reserve -> the unit's bit budget, and the reserve that is left.
+//! A unit's bit demand and the bit reservoir's reserve ->
+//! the unit's bit budget, and the reserve that is left.
 //!
-//! Before: `l3_base`, the share that each unit has of a frame's slot. After: `l3_analysis` under a supposed reserve,
-//! `l3_commit` under the real one.
+//! Before: `l3_base`, the share that each unit has of a frame's slot. After: `l3_analysis` under a
+//! supposed reserve, `l3_commit` under the real one.
 #![tactic(auto)]
 
 mod borrowing;

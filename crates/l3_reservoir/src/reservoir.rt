@@ -11,7 +11,8 @@ const LENGTH_LIMIT: u64 = 4095;
 
 /// The reserve of the bit reservoir in bits, as it stands before a unit.
 ///
-/// ISO/IEC 11172-3, Annex C, C.1.5.4, has the reservoir; how much of it a unit may take is this project's own rule.
+/// ISO/IEC 11172-3, Annex C, C.1.5.4, has the reservoir; how
+/// much of it a unit may take is this project's own rule.
 #[derive(Clone, Copy, Debug, PartialEq, Eq)]
 pub struct Reserve(u64);
 

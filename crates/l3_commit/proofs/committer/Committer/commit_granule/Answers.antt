@@ -1,5 +1,5 @@
 use Rattle.std.proofs.Common.{ap, sym, subst, ◌∙◌}
-use Rattle.l3_commit.specs.Standing.{CommitterView, StillStands, lines_of}
+use Rattle.l3_commit.specs.Standing.{CommitterView, StillStands, spectra_at_hand}
 use Rattle.l3_commit.specs.Tried.{granule_tried}
 use Rattle.l3_commit.proofs.Standings.{stands-granule, granule-view, stands-tried}
 use Rattle.l3_commit.proofs.committer.Committer.commit_granule.Goals as goal
@@ -14,5 +14,5 @@ pub returns-clause-tried : goal.returns-clause-tried
 returns-clause-tried g c =
     let now = c.args.self.now in
     λ st left right s.
-    let own = ap (λ (v : CommitterView). granule_tried v.track.settings v.track.frame v.track.reserve (lines_of v)) c.self.view_is in
+    let own = ap (λ (v : CommitterView). granule_tried v.track.settings v.track.frame v.track.reserve (spectra_at_hand v)) c.self.view_is in
     c.commit_granule.ensures.tried ∙ (own ∙ stands-tried now st left right c.requires.ready c.requires.turn s)

@@ -1,4 +1,5 @@
--- The frames that are chosen for spectra of 0: blank units, and main_data_begin as far back as it can be.
+-- The frames that are chosen for spectra of 0: blank units, and main_data_begin as far back as it
+-- can be.
 use Rattle.std.proofs.Common.{◌≡◌, refl, sym, ap, ◌∙◌, ℕ, zero, suc, ◌+◌, ◌-◌, ◌*◌, ◌/◌, List, [], ◌∷◌, ◌++◌, min, arith}
 use Rattle.std.specs.Prelude.{ℤ}
 use Rattle.l3_base.specs.declared.settings.Settings.{Settings}
@@ -11,10 +12,10 @@ use Rattle.l3_stream.specs.declared.unit.Unit.{Unit}
 use Rattle.l3_stream.specs.declared.unit.ChosenFrame.{ChosenFrame}
 use Rattle.l3_stream.specs.Units.{zero_lines}
 use Rattle.l3_stream.specs.Frames.{blank}
-use Rattle.l3_frames.specs.Silence.{begin_of}
+use Rattle.l3_silence.specs.Silence.{begin_of}
 use Rattle.l3_commit.specs.Choice.{Spectra, budget_at, unit_chosen, after_unit, granule_by, reserve_by, granule_chosen, after_granule, reserve_at_start, reserve_between, reserve_at_end, first_granule, second_granule, frame_chosen, begin_before, frames_before}
 use Rattle.l3_commit.proofs.Keeping.{shares-slot}
-use Rattle.l3_encoder.proofs.SilentUnits.{unit-blank}
+use Rattle.l3_silence.proofs.SilentUnits.{unit-blank}
 
 -- the lines of the channels that are there are all 0
 abbrev pub NoLines : Channels → (ℕ → List ℤ) → Type 0

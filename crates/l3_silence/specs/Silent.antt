@@ -3,7 +3,7 @@ use Rattle.std.specs.Prelude.{◌≡◌, List, ℤ, pos, length, All}
 use Rattle.l3_base.specs.declared.settings.Settings.{Settings}
 use Rattle.l3_base.specs.declared.rate.Channels.{Channels}
 use Rattle.l3_base.specs.declared.rate.Channels.TheVariants.{Mono, Stereo}
-use Rattle.l3_frames.specs.Silence.{silence_of}
+use Rattle.l3_silence.specs.Silence.{silence_of}
 use Rattle.l3_commit.specs.Encoding.{frames_for, encoding_of}
 
 -- all of these samples are 0

@@ -13,7 +13,7 @@ use Rattle.l3_tables.specs.Steps.{cs_at, ca_at}
 use Rattle.l3_tables.specs.Filterbank.{sample_at, window_of, column_sum, subband_sum, slot_sum, window_slot, turned_slot, slots_of}
 use Rattle.l3_mdct.specs.Spectrum.{windowed, line_cosine, line_from, line_before, lower_end, upper_end, is_lower, is_upper, line_after, lines_of, spectrum_of_granule}
 use Rattle.l3_stream.specs.Units.{zero_lines}
-use Rattle.l3_encoder.specs.Silent.{AreZero}
+use Rattle.l3_silence.specs.Silent.{AreZero}
 
 -- ---- lists and sums
 

@@ -1,4 +1,5 @@
--- The stream of silence: frames with no codes, in which each slot is handed on to the frames that follow.
+-- The stream of silence: frames with no codes, in which
+-- each slot is handed on to the frames that follow.
 use Rattle.std.specs.Prelude.{ℕ, zero, suc, ◌+◌, ◌-◌, ◌*◌, Bool, false, List, ◌++◌, min, replicate}
 use Rattle.std.specs.List.{flat_map, range_with_len}
 use Rattle.l3_base.specs.declared.settings.Settings.{Settings}
@@ -6,7 +7,8 @@ use Rattle.l3_base.specs.Header.{header_bits}
 use Rattle.l3_base.specs.Lengths.{is_padded, frame_bytes_of, slot_bytes_of, mmax_of}
 use Rattle.l3_bits.specs.Bits.{digits, packed}
 
--- main_data_begin of a frame in bytes: 0 in frame 0, and then the begin and the slot of the frame before, at most mmax
+-- main_data_begin of a frame in bytes: 0 in frame 0, and then
+-- the begin and the slot of the frame before, at most mmax
 unfoldable pub begin_of : Settings → ℕ → ℕ
 begin_of st zero = 0
 begin_of st (suc n) = min (begin_of st n + slot_bytes_of st n) (mmax_of st)

@@ -18,13 +18,13 @@ use Rattle.l3_stream.specs.Tape.{start_of, tape_from, tape_of, head_of, heads_of
 use Rattle.l3_stream.proofs.Packing.{packed-append}
 use Rattle.l3_stream.proofs.Side.{side-length}
 use Rattle.l3_stream.proofs.Tape.{slots-suc, start_within}
-use Rattle.l3_frames.specs.Silence.{begin_of, silent_frame, silence_of}
+use Rattle.l3_silence.specs.Silence.{begin_of, silent_frame, silence_of}
 use Rattle.l3_frames.proofs.PackingLemmas.{packed-zeros}
 use Rattle.l3_frames.proofs.SlotLemmas.{slot_range, slots-spread}
 use Rattle.l3_commit.specs.Encoding.{frames_for, spectra_of, frames_chosen}
-use Rattle.l3_encoder.specs.Silent.{AreSilent, ZerosEncodeToSilence}
-use Rattle.l3_encoder.proofs.SilentSpectrum.{spectrum-zero}
-use Rattle.l3_encoder.proofs.SilentFrames.{NoSpectra, blank_granule, silent_chosen, silent_from, frames-silent}
+use Rattle.l3_silence.specs.Silent.{AreSilent, ZerosEncodeToSilence}
+use Rattle.l3_silence.proofs.SilentSpectrum.{spectrum-zero}
+use Rattle.l3_silence.proofs.SilentFrames.{NoSpectra, blank_granule, silent_chosen, silent_from, frames-silent}
 
 -- ---- no codes
 

@@ -1,5 +1,0 @@
-use Rattle.l3_encoder.proofs.SilentStream.{zeros-silent}
-use Rattle.l3_encoder.proofs.laws.zeros_encode_to_silence.Goals as goal
-
-pub returns : goal.returns
-returns c = zeros-silent

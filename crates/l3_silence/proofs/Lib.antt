@@ -1,0 +1,4 @@
+pub mod SilentSpectrum
+pub mod SilentUnits
+pub mod SilentFrames
+pub mod SilentStream
