@@ -24,8 +24,8 @@ drop-between bytes at end n le =
     ∙ (ap (λ m. take m (drop n (drop at (bits_of bytes)))) rest ∙ ap (take (end - (at + n))) (drop-drop n at (bits_of bytes))))
 
 -- the bits from a place on begin with those up to the end
-pub ahead : (bytes : List ℕ) (at end : ℕ) → at ≤ 8 * length bytes → (more : List Bool) × (drop at (bits_of (with_zeros bytes)) ≡ between bytes at end ++ more)
-ahead bytes at end within =
+pub bits_from : (bytes : List ℕ) (at end : ℕ) → at ≤ 8 * length bytes → (more : List Bool) × (drop at (bits_of (with_zeros bytes)) ≡ between bytes at end ++ more)
+bits_from bytes at end within =
     let zeros = bits_of (0 ∷ 0 ∷ 0 ∷ []) in
     let rest = drop at (bits_of bytes) in
     let inside : at ≤ length (bits_of bytes) = omega (arith, length-bits_of bytes) in (
@@ -35,43 +35,43 @@ ahead bytes at end within =
           ∙ (ap (λ l. l ++ zeros) (sym (take-append-drop (end - at) rest)) ∙ append_assoc (take (end - at) rest) (drop (end - at) rest) zeros)),
     )
 
--- a window within the bits is their front
-pub window-front : (bytes : List ℕ) (at end width : ℕ) → at ≤ end → end ≤ 8 * length bytes → width ≤ end - at →
+-- bits ahead of a place that are within the bits are their front
+pub bits_ahead-front : (bytes : List ℕ) (at end width : ℕ) → at ≤ end → end ≤ 8 * length bytes → width ≤ end - at →
     take width (drop at (bits_of (with_zeros bytes))) ≡ take width (between bytes at end)
-window-front bytes at end width order within le =
-    let a = ahead bytes at end (omega arith) in
+bits_ahead-front bytes at end width order within le =
+    let a = bits_from bytes at end (omega arith) in
     ap (take width) a.1 ∙ take-append-le width (between bytes at end) a.0 (omega (arith, length-between bytes at end order within))
 
--- ---- the code in front of a window
+-- ---- the code in front of the bits ahead
 
--- the window is in front of longer bits, and a code in front of it
-pub record IsAhead (codes : List (List Bool)) (i width word : ℕ) (bits longer more : List Bool) : Type 0 where
+-- the bits ahead are in front of longer bits, and a code in front of them
+pub record IsAhead (codes : List (List Bool)) (i width ahead : ℕ) (bits longer more : List Bool) : Type 0 where
   pub free : all_apart codes ≡ true
   pub place : i < length codes
   pub whole : longer ≡ bits ++ more
   pub wide : width ≤ length longer
-  pub value : word ≡ number_of (take width longer)
-  pub begins : Begins (get_or codes i []) (digits width word)
+  pub value : ahead ≡ number_of (take width longer)
+  pub begins : Begins (get_or codes i []) (digits width ahead)
 
-module _ (codes : List (List Bool)) (i width word : ℕ) (bits longer more : List Bool) (is : IsAhead codes i width word bits longer more) where
+module _ (codes : List (List Bool)) (i width ahead : ℕ) (bits longer more : List Bool) (is : IsAhead codes i width ahead bits longer more) where
   code : List Bool
   code = get_or codes i []
 
-  window_bits : take width longer ≡ get_or codes i [] ++ is.begins.0
-  window_bits =
+  front_bits : take width longer ≡ get_or codes i [] ++ is.begins.0
+  front_bits =
       let size : length (take width longer) ≡ width = length-take-le width longer is.wide in
-      let same : digits width word ≡ take width longer = ap (λ w. digits width w) is.value ∙ (ap (λ n. digits n (number_of (take width longer))) (sym size) ∙ digits-fold (take width longer) 0) in
+      let same : digits width ahead ≡ take width longer = ap (λ w. digits width w) is.value ∙ (ap (λ n. digits n (number_of (take width longer))) (sym size) ∙ digits-fold (take width longer) 0) in
       sym same ∙ is.begins.1
 
-  -- the code is no longer than the window
+  -- the code is no longer than the bits ahead
   code_fits : length (get_or codes i []) ≤ width
   code_fits =
       let size : length (take width longer) ≡ width = length-take-le width longer is.wide in
-      omega (arith, size, ap length window_bits, length-append (get_or codes i []) is.begins.0)
+      omega (arith, size, ap length front_bits, length-append (get_or codes i []) is.begins.0)
 
   -- longer bits begin with the code
   longer_is : longer ≡ get_or codes i [] ++ (is.begins.0 ++ drop width longer)
-  longer_is = sym (take-append-drop width longer) ∙ (ap (λ l. l ++ drop width longer) window_bits ∙ append_assoc (get_or codes i []) is.begins.0 (drop width longer))
+  longer_is = sym (take-append-drop width longer) ∙ (ap (λ l. l ++ drop width longer) front_bits ∙ append_assoc (get_or codes i []) is.begins.0 (drop width longer))
 
   -- where the code is whole within the bits, it is the one found
   pub found : length (get_or codes i []) ≤ length bits → entry_at codes bits ≡ Some (i, drop (length (get_or codes i [])) bits)
@@ -102,13 +102,13 @@ module _ (codes : List (List Bool)) (i width word : ℕ) (bits longer more : Lis
 
 -- ---- what a reader answers
 
-pub is_ahead : (codes : List (List Bool)) (i width word : ℕ) (bytes : List ℕ) (at end : ℕ) → all_apart codes ≡ true → i < length codes → (within : at ≤ 8 * length bytes) → width ≤ 16 →
-    word ≡ number_of (take width (drop at (bits_of (with_zeros bytes)))) → Begins (get_or codes i []) (digits width word) →
-    IsAhead codes i width word (between bytes at end) (drop at (bits_of (with_zeros bytes))) (ahead bytes at end within).0
-is_ahead codes i width word bytes at end free place within wide value begins = record {
+pub is_ahead : (codes : List (List Bool)) (i width ahead : ℕ) (bytes : List ℕ) (at end : ℕ) → all_apart codes ≡ true → i < length codes → (within : at ≤ 8 * length bytes) → width ≤ 16 →
+    ahead ≡ number_of (take width (drop at (bits_of (with_zeros bytes)))) → Begins (get_or codes i []) (digits width ahead) →
+    IsAhead codes i width ahead (between bytes at end) (drop at (bits_of (with_zeros bytes))) (bits_from bytes at end within).0
+is_ahead codes i width ahead bytes at end free place within wide value begins = record {
   free = free;
   place = place;
-  whole = (ahead bytes at end within).1;
+  whole = (bits_from bytes at end within).1;
   wide = omega (arith, length-drop at (bits_of (with_zeros bytes)), length-bits_of (with_zeros bytes), length-append bytes (0 ∷ 0 ∷ 0 ∷ []));
   value = value;
   begins = begins;

@@ -7,8 +7,8 @@ pub mod Joined
 pub mod TableCodes
 pub mod Lengths
 pub mod Quadruples
-pub mod WordFacts
-pub mod Windows
+pub mod ReadingTableFacts
+pub mod BitsAhead
 pub mod Betweens
 pub mod SignReading
 pub mod ValueReading

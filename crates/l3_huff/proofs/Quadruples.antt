@@ -11,7 +11,7 @@ use Rattle.l3_huff.specs.declared.quads.QuadTable.{QuadTable}
 use Rattle.l3_huff.specs.declared.quads.QuadTable.TheVariants.{A, B}
 use Rattle.l3_huff.specs.Tables.{quad_codes, quad_lengths, quad_values}
 use Rattle.l3_huff.specs.Codes.{quad_code_of, quad_index, sign_code}
-use Rattle.l3_huff.specs.Words.{quad_length_at, quad_value_at}
+use Rattle.l3_huff.specs.Tables.{quad_length_at, quad_value_at}
 use Rattle.l3_huff.proofs.TableCodes.{codes_from-at}
 use Rattle.l3_huff.proofs.Tails.{length-sign_code}
 

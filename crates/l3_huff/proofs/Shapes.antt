@@ -3,7 +3,7 @@ use Rattle.std.proofs.Common.{◌≡◌, ℕ, ◌+◌, ◌*◌, ◌^◌, ◌<◌
 use Rattle.std.specs.List.{list_any}
 use Rattle.std.proofs.lemmas.Bool.{agree_below, agree_below_at, and_parts, or_cases, not-true, eqb-true, ltb-true, leb-true, both_ways}
 use Rattle.l3_huff.specs.Tables.{IsTable, is_table, profile_tables, width_at, first_at, linbits_at, base_of, width_of, linbits_of, lengths_of, values_of, codes_of, greatest_of}
-use Rattle.l3_huff.specs.Words.{longest_at, first_word_at, longest_of}
+use Rattle.l3_huff.specs.ReadingTables.{longest_at, first_cell_at, longest_of}
 use Rattle.l3_huff.proofs.Entries.{all_apart}
 
 -- the numbers of a table
@@ -14,12 +14,12 @@ pub record IsShaped (table : ℕ) : Type 0 where
   pub few : linbits_of table ≤ 13
   pub placed : first_at (base_of table) + width_of table * width_of table ≤ 611
   pub short : longest_of table ≤ 12
-  pub words : first_word_at (base_of table) + 2 ^ longest_of table ≤ 13321
+  pub cells : first_cell_at (base_of table) + 2 ^ longest_of table ≤ 13321
 
 abbrev shape_test : ℕ → Bool
 shape_test t =
     ltb 0 (width_of t) && (leb (width_of t) 16 && ((eqb (width_of t) 16 || eqb (linbits_of t) 0) && (leb (linbits_of t) 13
-    && (leb (first_at (base_of t) + width_of t * width_of t) 611 && (leb (longest_of t) 12 && leb (first_word_at (base_of t) + 2 ^ longest_of t) 13321)))))
+    && (leb (first_at (base_of t) + width_of t * width_of t) 611 && (leb (longest_of t) 12 && leb (first_cell_at (base_of t) + 2 ^ longest_of t) 13321)))))
 
 shape_from : (t : ℕ) → shape_test t ≡ true → IsShaped t
 shape_from t h =
@@ -36,7 +36,7 @@ shape_from t h =
       few = leb-true _ _ d.0;
       placed = leb-true _ _ e.0;
       short = leb-true _ _ f.0;
-      words = leb-true _ _ f.1;
+      cells = leb-true _ _ f.1;
     }
 
 abbrev all_below : List ℕ → Bool
@@ -58,7 +58,7 @@ unfolding is_table
 IsTable-below t is = in_profile t profile_tables refl is
 
 shapes_pass : agree_below (λ t. not (is_table t) || shape_test t) (λ _. true) 32 ≡ true
-unfolding is_table width_at first_at linbits_at longest_at first_word_at
+unfolding is_table width_at first_at linbits_at longest_at first_cell_at
 shapes_pass = refl
 
 pub shape_of : (t : ℕ) → IsTable t → IsShaped t

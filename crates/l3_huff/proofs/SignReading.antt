@@ -7,7 +7,7 @@ use Rattle.l3_bits.specs.Bits.{bits_of, digit_value, number_of}
 use Rattle.l3_bits.proofs.Places.{length-bits_of}
 use Rattle.l3_huff.specs.Reading.{sign_at}
 use Rattle.l3_huff.specs.Words.{GoesOn, between, with_zeros}
-use Rattle.l3_huff.proofs.Betweens.{window-front}
+use Rattle.l3_huff.proofs.Betweens.{bits_ahead-front}
 
 -- the bit at a place
 abbrev pub bit_at : List ℕ → ℕ → Bool
@@ -21,9 +21,9 @@ between-cons bytes at end lt within =
     ∙ (ap (take (suc (end - (at + 1)))) (drop-cons (bits_of bytes) at false (omega (arith, length-bits_of bytes)))
     ∙ ap (λ n. bit_at bytes at ∷ take (end - (at + 1)) (drop n (bits_of bytes))) next)
 
-pub window-bit : (bytes : List ℕ) (at end : ℕ) → at < end → end ≤ 8 * length bytes → number_of (take 1 (drop at (bits_of (with_zeros bytes)))) ≡ digit_value (bit_at bytes at)
-window-bit bytes at end lt within =
-    ap number_of (window-front bytes at end 1 (omega arith) within (omega arith) ∙ ap (take 1) (between-cons bytes at end lt within)) ∙ one (bit_at bytes at)
+pub bits_ahead-bit : (bytes : List ℕ) (at end : ℕ) → at < end → end ≤ 8 * length bytes → number_of (take 1 (drop at (bits_of (with_zeros bytes)))) ≡ digit_value (bit_at bytes at)
+bits_ahead-bit bytes at end lt within =
+    ap number_of (bits_ahead-front bytes at end 1 (omega arith) within (omega arith) ∙ ap (take 1) (between-cons bytes at end lt within)) ∙ one (bit_at bytes at)
   where
     one : (b : Bool) → number_of (b ∷ []) ≡ digit_value b
     one true = refl

@@ -7,7 +7,7 @@ use Rattle.l3_huff.specs.Tables.{IsTable, linbits_of, width_of}
 use Rattle.l3_huff.specs.Reading.{sign_at, tail_at}
 use Rattle.l3_huff.specs.Words.{GoesOn, between, with_zeros}
 use Rattle.l3_huff.proofs.Shapes.{shape_of}
-use Rattle.l3_huff.proofs.Betweens.{drop-between, length-between, window-front}
+use Rattle.l3_huff.proofs.Betweens.{drop-between, length-between, bits_ahead-front}
 
 tail_at-small : (table entry : ℕ) (bits : List Bool) → entry < 15 → tail_at table entry bits ≡ sign_at entry bits
 unfolding tail_at
@@ -54,7 +54,7 @@ module _ (table entry l k : ℕ) (bytes : List ℕ) (at end : ℕ) (order : at �
   tail_is =
       let size : l ≤ length (between bytes at end) = omega (arith, length-between bytes at end order within) in
       ap (λ e. tail_at table e (between bytes at end)) last
-      ∙ (tail_at-large table l k (between bytes at end) is size (value ∙ ap number_of (window-front bytes at end l order within room))
+      ∙ (tail_at-large table l k (between bytes at end) is size (value ∙ ap number_of (bits_ahead-front bytes at end l order within room))
       ∙ ap (sign_at (15 + k)) (drop-between bytes at end l room))
 
   pub large-found : (o : Option (ℤ × ℕ)) → IfSome o (λ r. GoesOn (sign_at (15 + k)) bytes (at + l) end r.0 r.1) → IfSome o (λ r. GoesOn (tail_at table entry) bytes at end r.0 r.1)

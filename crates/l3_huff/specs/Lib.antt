@@ -5,3 +5,4 @@ pub mod Reading
 pub mod Standing
 pub mod Laws
 pub mod Words
+pub mod ReadingTables

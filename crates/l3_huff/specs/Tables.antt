@@ -39,6 +39,14 @@ length_at place = slice_index LENGTHS place
 unfoldable pub value_at : ℕ → ℕ
 value_at place = slice_index VALUES place
 
+-- the length of an index's code in table A of quadruples
+unfoldable pub quad_length_at : ℕ → ℕ
+quad_length_at index = slice_index QUAD_LENGTHS index
+
+-- that code as a number
+unfoldable pub quad_value_at : ℕ → ℕ
+quad_value_at index = slice_index QUAD_VALUES index
+
 -- the table that has the codes: tables 24 to 31 share theirs
 abbrev pub base_of : ℕ → ℕ
 base_of table = min table 24

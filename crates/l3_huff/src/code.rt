@@ -1,7 +1,8 @@
 ghost use Rattle.std.specs.Prelude.{◌≡◌, ◌<◌, ◌≤◌, ◌+◌, ◌^◌, ◌++◌};
 ghost use Rattle.l3_bits.specs.Bits.{digits};
 
-/// A code: the low `length` binary digits of `value`, the first bit being the most significant of them.
+/// A code: the low `length` binary digits of `value`, the first bit being the most significant of
+/// them.
 #[derive(Clone, Copy, Debug, PartialEq, Eq)]
 pub struct Code {
     pub value: u64,

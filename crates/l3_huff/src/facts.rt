@@ -1,5 +1,5 @@
-//! What is proved of each code table: it is a complete prefix code, its entries have the sums that were
-//! counted apart from this source, and its greatest value is the printed one.
+//! What is proved of each code table: it is a complete prefix code, its entries have the sums that
+//! were counted apart from this source, and its greatest value is the printed one.
 
 ghost use Rattle.std.specs.Prelude.{◌≡◌, ◌∷◌, [], map, All};
 ghost use Rattle.l3_huff.specs.Tables.{codes_of, greatest_of, lengths_of, linbits_of, quad_codes, quad_lengths, quad_values, values_of};

@@ -1,12 +1,14 @@
 ghost use Rattle.l3_huff.specs.Laws.{PairIsThere, PairIsFound, QuadIsThere, QuadIsFound, OnePairCode, OneQuadCode, LengthOfMagnitudes, LengthOfParts};
 
-/// Reading a pair in front of bits, as a function, is the relation that a code of the table stands there.
+/// Reading a pair in front of bits, as a function, is the relation that a code of the table stands
+/// there.
 pub fn pair_reading()
     ensures there { PairIsThere }
     ensures found { PairIsFound }
 {}
 
-/// Reading a quadruple in front of bits, as a function, is the relation that a code of the table stands there.
+/// Reading a quadruple in front of bits, as a function, is the relation that a code of the table
+/// stands there.
 pub fn quad_reading()
     ensures there { QuadIsThere }
     ensures found { QuadIsFound }

@@ -1,10 +1,12 @@
 //! Pairs and quadruples of quantised values -> Huffman codes, and back.
 //!
-//! The code tables are those of Layer III (ISO/IEC 11172-3, Annex B), as far as the profile has them.
+//! The code tables are those of Layer III (ISO/IEC 11172-3, Annex B), as far as the profile has
+//! them.
 //! Each is proved to be a complete prefix code, so what is written is read again in one way only.
 //! Before: values and a choice of tables. After: the bits of main_data.
 #![tactic(auto)]
 
+mod bits_ahead;
 mod code;
 mod facts;
 mod laws;
@@ -13,8 +15,7 @@ mod pairs;
 mod quad_tables;
 mod quads;
 mod reading;
-mod window;
-mod word_tables;
+mod reading_tables;
 
 pub use code::Code;
 pub use facts::{

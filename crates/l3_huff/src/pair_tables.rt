@@ -1,6 +1,7 @@
 //! The code tables of pairs (ISO/IEC 11172-3, Annex B, the Huffman code tables of Layer III).
 //!
-//! The entries of all tables stand one table after the other, each row by row: x is the row, y the column.
+//! The entries of all tables stand one table after the other, each row by row: x is the row, y the
+//! column.
 //! A table with linbits stands for the values above its last row too.
 
 ghost use Rattle.std.specs.Prelude.{◌≡◌, ◌<◌};

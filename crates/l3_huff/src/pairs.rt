@@ -18,14 +18,16 @@ pub fn is_table(table: u8) -> bool
     table < 32 && pair_tables::width(base(table)) != 0
 }
 
-/// Whether the table has codes for this absolute value; false for a table that the profile doesn't have.
+/// Whether the table has codes for this absolute value; false for a table that the profile doesn't
+/// have.
 pub fn holds(table: u8, value: u16) -> bool
     ensures { IsTrue result ↔ Holds table value }
 {
     is_table(table) && value <= greatest(table)
 }
 
-/// The length in bits of a pair's table code, without linbits and signs, for absolute values that the table holds.
+/// The length in bits of a pair's table code, without linbits and signs, for absolute values that
+/// the table holds.
 #[inline(always)]
 pub fn code_length(table: u8, x: u16, y: u16) -> u8
     requires holds_x { Holds table x }

@@ -1,9 +1,11 @@
 //! The code table A of quadruples (ISO/IEC 11172-3, Annex B, the Huffman code tables of Layer III).
 //!
-//! Entries go by the index `8|v| + 4|w| + 2|x| + |y|`. Table B needs none: its codes are 15 less the index.
+//! Entries go by the index `8|v| + 4|w| + 2|x| + |y|`. Table B needs none: its codes are 15 less
+//! the index.
 
 ghost use Rattle.std.specs.Prelude.{◌≡◌, ◌<◌};
-ghost use Rattle.l3_huff.specs.Words.{quad_length_at, quad_value_at, quad_word_at};
+ghost use Rattle.l3_huff.specs.ReadingTables.{quad_index_at};
+ghost use Rattle.l3_huff.specs.Tables.{quad_length_at, quad_value_at};
 
 // The lengths of the codes of table A, in bits, without signs.
 #[rattlefmt::skip]
@@ -17,9 +19,9 @@ static QUAD_VALUES: [u8; 16] = [
     1, 5, 4, 5, 6, 5, 4, 4, 7, 3, 6, 0, 7, 2, 3, 1,
 ];
 
-// The index whose code in table A begins each word of 6 bits.
+// The index whose code in table A begins the 6 bits ahead, by their number.
 #[rattlefmt::skip]
-static QUAD_WORDS: [u8; 64] = [
+static QUAD_INDICES: [u8; 64] = [
     11, 15, 13, 14,  7,  5,  9,  9,  6,  6,  3,  3, 10, 10, 12, 12,
      2,  2,  2,  2,  1,  1,  1,  1,  4,  4,  4,  4,  8,  8,  8,  8,
      0,  0,  0,  0,  0,  0,  0,  0,  0,  0,  0,  0,  0,  0,  0,  0,
@@ -44,11 +46,11 @@ pub fn value(index: usize) -> u8
     QUAD_VALUES[index]
 }
 
-/// The index whose code in table A begins a word of 6 bits.
+/// The index whose code in table A begins the 6 bits ahead.
 #[inline(always)]
-pub fn word(word: usize) -> u8
-    requires { word < 64 }
-    ensures { result ≡ quad_word_at word }
+pub fn index(ahead: usize) -> u8
+    requires { ahead < 64 }
+    ensures { result ≡ quad_index_at ahead }
 {
-    QUAD_WORDS[word]
+    QUAD_INDICES[ahead]
 }

@@ -4,16 +4,19 @@ ghost use Rattle.std.specs.Prelude.{◌≡◌, ◌<◌, ◌≤◌, ◌+◌, ◌*
 ghost use Rattle.l3_huff.specs.Tables.{IsTable, codes_of, quad_codes, width_of};
 ghost use Rattle.l3_huff.specs.Reading.{entry_at, sign_at, tail_at};
 ghost use Rattle.l3_huff.specs.Standing.{PairStands, QuadStands};
-ghost use Rattle.l3_huff.specs.Words.{GoesOn, IsCellOf, IsIndexOf, between, longest_of};
+ghost use Rattle.l3_huff.specs.ReadingTables.{IsCellOf, IsIndexOf, longest_of};
+ghost use Rattle.l3_huff.specs.Words.{GoesOn, between};
 
+use crate::bits_ahead::bits_ahead;
 use crate::pairs::{FIRST_LINBITS, base, linbits, place};
 use crate::quads::{QuadTable, index_code};
-use crate::window::window;
-use crate::{pair_tables, quad_tables, word_tables};
+use crate::{pair_tables, quad_tables, reading_tables};
 
-/// Reads the pair whose code stands at bit `at`, whole before bit `end`: x, y and the bit after the code.
+/// Reads the pair whose code stands at bit `at`, whole before bit `end`: x, y and the bit after the
+/// code.
 ///
-/// None where no code of the table stands there. The table is one of the profile; values are at most 8206 either way.
+/// None where no code of the table stands there. The table is one of the profile; values are at
+/// most 8206 either way.
 pub fn read_pair(table: u8, bytes: &[u8], at: u64, end: u64) -> Option<(i16, i16, u64)>
     requires table { IsTable table }
     requires order { at ≤ end }
@@ -28,7 +31,8 @@ pub fn read_pair(table: u8, bytes: &[u8], at: u64, end: u64) -> Option<(i16, i16
     Some((x, y, at))
 }
 
-/// Reads the quadruple whose code stands at bit `at`, whole before bit `end`: its values and the bit after the code.
+/// Reads the quadruple whose code stands at bit `at`, whole before bit `end`: its values and the
+/// bit after the code.
 ///
 /// None where no code of the table stands there.
 pub fn read_quad(table: QuadTable, bytes: &[u8], at: u64, end: u64) -> Option<([i16; 4], u64)>
@@ -55,8 +59,8 @@ fn read_entry(table: u8, bytes: &[u8], at: u64, end: u64) -> Option<(u16, u16, u
     ensures found { IfSome result (λ r. GoesOn (entry_at (codes_of table)) bytes.now at end (r.0 * width_of table + r.1) r.2) }
     ensures none { IfNone result (entry_at (codes_of table) (between bytes.now at end) ≡ None) }
 {
-    let width = u32::from(word_tables::longest(base(table)));
-    let cell = word_cell(table, window(bytes, at, width));
+    let width = u32::from(reading_tables::longest(base(table)));
+    let cell = cell_ahead(table, bits_ahead(bytes, at, width));
     let row = u16::from(cell / 16);
     let column = u16::from(cell % 16);
     let length = u64::from(pair_tables::length(place(table, row, column)));
@@ -67,13 +71,14 @@ fn read_entry(table: u8, bytes: &[u8], at: u64, end: u64) -> Option<(u16, u16, u
     }
 }
 
-// The cell, 16 times the row and the column, whose code begins a word of as many bits as the table's longest code.
-fn word_cell(table: u8, word: u32) -> u8
+// The cell, 16 times the row and the column, whose code begins the bits ahead, as many as the
+// table's longest code has.
+fn cell_ahead(table: u8, ahead: u32) -> u8
     requires table { IsTable table }
-    requires word { word < 2 ^ longest_of table }
-    ensures { IsCellOf table word result }
+    requires ahead { ahead < 2 ^ longest_of table }
+    ensures { IsCellOf table ahead result }
 {
-    word_tables::cell(usize::from(word_tables::first_word(base(table))) + word as usize)
+    reading_tables::cell(usize::from(reading_tables::first_cell(base(table))) + ahead as usize)
 }
 
 // The value of a row or a column, and the bit after its linbits and its sign.
@@ -92,7 +97,7 @@ fn read_value(table: u8, entry: u16, bytes: &[u8], at: u64, end: u64) -> Option<
     if end - at < u64::from(linbits) {
         return None;
     }
-    let above = window(bytes, at, linbits) as u16;
+    let above = bits_ahead(bytes, at, linbits) as u16;
     read_sign(FIRST_LINBITS + above, bytes, at + u64::from(linbits), end)
 }
 
@@ -111,7 +116,7 @@ fn read_sign(value: u16, bytes: &[u8], at: u64, end: u64) -> Option<(i16, u64)>
         return None;
     }
     let signed = value as i16;
-    if window(bytes, at, 1) == 1 {
+    if bits_ahead(bytes, at, 1) == 1 {
         Some((-signed, at + 1))
     } else {
         Some((signed, at + 1))
@@ -126,7 +131,7 @@ fn read_index(table: QuadTable, bytes: &[u8], at: u64, end: u64) -> Option<(u16,
     ensures found { IfSome result (λ r. GoesOn (entry_at (quad_codes table)) bytes.now at end r.0 r.1) }
     ensures none { IfNone result (entry_at (quad_codes table) (between bytes.now at end) ≡ None) }
 {
-    let index = word_index(table, window(bytes, at, 6));
+    let index = index_ahead(table, bits_ahead(bytes, at, 6));
     let length = u64::from(index_code(table, index).length);
     if length <= end - at {
         Some((index as u16, at + length))
@@ -135,13 +140,13 @@ fn read_index(table: QuadTable, bytes: &[u8], at: u64, end: u64) -> Option<(u16,
     }
 }
 
-// The index whose code begins a word of 6 bits.
-fn word_index(table: QuadTable, word: u32) -> usize
-    requires { word < 64 }
-    ensures { IsIndexOf table word result }
+// The index whose code begins the 6 bits ahead.
+fn index_ahead(table: QuadTable, ahead: u32) -> usize
+    requires { ahead < 64 }
+    ensures { IsIndexOf table ahead result }
 {
     match table {
-        QuadTable::A => usize::from(quad_tables::word(word as usize)),
-        QuadTable::B => 15 - word as usize / 4,
+        QuadTable::A => usize::from(quad_tables::index(ahead as usize)),
+        QuadTable::B => 15 - ahead as usize / 4,
     }
 }

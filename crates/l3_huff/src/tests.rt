@@ -50,7 +50,8 @@ fn one_code_of_each_table(rt: HostRuntime) {
     }
 }
 
-// A pair has its code and is read again, but not where the end cuts the code short: in its table code, its linbits or its signs.
+// A pair has its code and is read again, but not where the end cuts the code short: in its table
+// code, its linbits or its signs.
 fn check_pair(rt: &impl Abort, table: u8, x: i16, y: i16, code: Code) {
     assert!(rt; holds(table, x.unsigned_abs()) && holds(table, y.unsigned_abs()));
     let made = pair_code(table, x, y);

@@ -1,5 +1,5 @@
 use Rattle.std.proofs.Common.{refl}
-use Rattle.l3_huff.specs.Words.{quad_length_at}
+use Rattle.l3_huff.specs.Tables.{quad_length_at}
 use Rattle.l3_huff.proofs.quad_tables.length.Goals as goal
 
 pub returns : goal.returns

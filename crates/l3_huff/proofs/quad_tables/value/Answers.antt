@@ -1,5 +1,5 @@
 use Rattle.std.proofs.Common.{refl}
-use Rattle.l3_huff.specs.Words.{quad_value_at}
+use Rattle.l3_huff.specs.Tables.{quad_value_at}
 use Rattle.l3_huff.proofs.quad_tables.value.Goals as goal
 
 pub returns : goal.returns

@@ -1,7 +1,7 @@
 use Rattle.std.proofs.Common.{◌≡◌, ap, sym, ◌∙◌, get_or, []}
 use Rattle.l3_bits.specs.Bits.{digits}
 use Rattle.l3_huff.specs.Tables.{quad_codes}
-use Rattle.l3_huff.specs.Words.{quad_length_at, quad_value_at}
+use Rattle.l3_huff.specs.Tables.{quad_length_at, quad_value_at}
 use Rattle.l3_huff.proofs.Quadruples.{code_in_a, code_in_b, index_code_at}
 use Rattle.l3_huff.proofs.quads.index_code.Goals as goal
 

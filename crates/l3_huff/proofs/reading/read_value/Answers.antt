@@ -24,15 +24,15 @@ pub read_sign-requires-2-clause-value : goal.read_sign-requires-2-clause-value
 read_sign-requires-2-clause-value c =
     let few : c.from-linbits.result ≤ 13 = omega (arith, c.from-linbits.ensures, c.linbits.ensures.limit) in
     let power : 2 ^ c.from-linbits.result < 2 ^ 14 = pow_below c.from-linbits.result 14 (omega (arith, few)) in
-    omega (arith, power, c.window-above.ensures.small)
+    omega (arith, power, c.bits_ahead-above.ensures.small)
 
 pub returns-clause-found : goal.returns-clause-found
 returns-clause-found c =
     let last = last_entry c.args.table c.args.entry c.requires.table c.requires.entry c.if-entry-lt-FIRST_LINBITS.false in
     let linbits : c.from-2.result ≡ linbits_of c.args.table = cc in
     let room : c.from-2.result ≤ c.args.end - c.args.at = omega (arith, c.if-end-at.false, c.from.ensures, c.from-2.ensures) in
-    let value = c.window-above.ensures.value ∙ ap (λ n. number_of (take n (drop c.args.at (bits_of (with_zeros c.args.bytes.now))))) (sym c.from-2.ensures) in
-    large-found c.args.table c.args.entry c.from-2.result c.window-above.result c.args.bytes.now c.args.at c.args.end c.requires.order c.requires.within last linbits room value
+    let value = c.bits_ahead-above.ensures.value ∙ ap (λ n. number_of (take n (drop c.args.at (bits_of (with_zeros c.args.bytes.now))))) (sym c.from-2.ensures) in
+    large-found c.args.table c.args.entry c.from-2.result c.bits_ahead-above.result c.args.bytes.now c.args.at c.args.end c.requires.order c.requires.within last linbits room value
     c.read_sign-2.result c.read_sign-2.ensures.found
 
 pub returns-clause-none : goal.returns-clause-none
@@ -40,6 +40,6 @@ returns-clause-none c =
     let last = last_entry c.args.table c.args.entry c.requires.table c.requires.entry c.if-entry-lt-FIRST_LINBITS.false in
     let linbits : c.from-2.result ≡ linbits_of c.args.table = cc in
     let room : c.from-2.result ≤ c.args.end - c.args.at = omega (arith, c.if-end-at.false, c.from.ensures, c.from-2.ensures) in
-    let value = c.window-above.ensures.value ∙ ap (λ n. number_of (take n (drop c.args.at (bits_of (with_zeros c.args.bytes.now))))) (sym c.from-2.ensures) in
-    large-none c.args.table c.args.entry c.from-2.result c.window-above.result c.args.bytes.now c.args.at c.args.end c.requires.order c.requires.within last linbits room value
+    let value = c.bits_ahead-above.ensures.value ∙ ap (λ n. number_of (take n (drop c.args.at (bits_of (with_zeros c.args.bytes.now))))) (sym c.from-2.ensures) in
+    large-none c.args.table c.args.entry c.from-2.result c.bits_ahead-above.result c.args.bytes.now c.args.at c.args.end c.requires.order c.requires.within last linbits room value
     c.read_sign-2.result c.read_sign-2.ensures.none

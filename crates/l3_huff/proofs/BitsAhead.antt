@@ -80,11 +80,11 @@ with_zeros-at [] (suc (suc (suc i))) = refl
 with_zeros-at (b ∷ bytes) zero = refl
 with_zeros-at (b ∷ bytes) (suc i) = with_zeros-at bytes i
 
-pub window_is : (bytes : List ℕ) (at width : ℕ) → at ≤ 8 * length bytes → width ≤ 16 →
+pub bits_ahead_is : (bytes : List ℕ) (at width : ℕ) → at ≤ 8 * length bytes → width ≤ 16 →
     get_or bytes (at / 8) 0 < 2 ^ 8 → get_or bytes (at / 8 + 1) 0 < 2 ^ 8 → get_or bytes (at / 8 + 2) 0 < 2 ^ 8 →
     ((get_or bytes (at / 8) 0 * 2 ^ 8 + get_or bytes (at / 8 + 1) 0) * 2 ^ 8 + get_or bytes (at / 8 + 2) 0) / 2 ^ (24 - at % 8 - width) % 2 ^ width
     ≡ number_of (take width (drop at (bits_of (with_zeros bytes))))
-window_is bytes at width within le la lb lc =
+bits_ahead_is bytes at width within le la lb lc =
     let bs = with_zeros bytes in
     let i = at / 8 in
     let place : at ≡ 8 * i + at % 8 = omega arith in

@@ -7,19 +7,19 @@ ghost use Rattle.l3_huff.specs.Words.{with_zeros};
 /// The number that the next `width` bits stand for; past the bytes stand zeros.
 ///
 /// Three bytes hold 16 bits from any bit of the first of them on.
-pub fn window(bytes: &[u8], at: u64, width: u32) -> u32
+pub fn bits_ahead(bytes: &[u8], at: u64, width: u32) -> u32
     requires width { width ≤ 16 }
     requires within { at ≤ 8 * length bytes.now }
     ensures value { result ≡ number_of (take width (drop at (bits_of (with_zeros bytes.now)))) }
     ensures small { result < 2 ^ width }
 {
     let byte = (at / 8) as usize;
-    let word = three_bytes(
+    let ahead = three_bytes(
         byte_or_zero(bytes, byte),
         byte_or_zero(bytes, byte + 1),
         byte_or_zero(bytes, byte + 2),
     );
-    (word >> (24 - (at % 8) as u32 - width)) % (1u32 << width)
+    (ahead >> (24 - (at % 8) as u32 - width)) % (1u32 << width)
 }
 
 // Three bytes as a number, the first being the most significant.

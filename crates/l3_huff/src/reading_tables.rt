@@ -1,10 +1,10 @@
-//! Reading tables: which code begins a word of bits.
+//! Reading tables: which code begins the bits ahead.
 //!
-//! For each table of pairs the words of as many bits as its longest code has, from 0 on.
-//! An entry is 16 times the row and the column of the code that begins the word.
+//! The bits ahead are as many as the table's longest code has, and its cells go by their number.
+//! A cell is 16 times the row and the column of the code that begins them.
 
 ghost use Rattle.std.specs.Prelude.{◌≡◌, ◌<◌};
-ghost use Rattle.l3_huff.specs.Words.{longest_at, first_word_at, cell_at};
+ghost use Rattle.l3_huff.specs.ReadingTables.{longest_at, first_cell_at, cell_at};
 
 // The longest code of the tables 0 to 24, in bits.
 #[rattlefmt::skip]
@@ -12,13 +12,13 @@ static LONGEST: [u8; 25] = [
     0, 3, 6, 6, 0, 8, 7, 10, 11, 9, 11, 11, 10, 0, 0, 0, 0, 0, 0, 0, 0, 0, 0, 0, 12,
 ];
 
-// Where the words of the tables 0 to 24 begin.
+// Where the cells of the tables 0 to 24 begin.
 #[rattlefmt::skip]
-static FIRST_WORDS: [u16; 25] = [
+static FIRST_CELLS: [u16; 25] = [
     0, 1, 9, 73, 0, 137, 393, 521, 1545, 3593, 4105, 6153, 8201, 0, 0, 0, 0, 0, 0, 0, 0, 0, 0, 0, 9225,
 ];
 
-// The code that begins each word.
+// The codes that begin the bits ahead.
 #[rattlefmt::skip]
 static CELLS: [u8; 13321] = [
     // table 0: by no bits
@@ -719,16 +719,16 @@ pub fn longest(base: usize) -> u8
     LONGEST[base]
 }
 
-/// Where the words of a table of codes begin.
+/// Where the cells of a table of codes begin.
 #[inline(always)]
-pub fn first_word(base: usize) -> u16
+pub fn first_cell(base: usize) -> u16
     requires { base < 25 }
-    ensures { result ≡ first_word_at base }
+    ensures { result ≡ first_cell_at base }
 {
-    FIRST_WORDS[base]
+    FIRST_CELLS[base]
 }
 
-/// The entry at a place among all words.
+/// The cell at a place among those of all tables.
 #[inline(always)]
 pub fn cell(place: usize) -> u8
     requires { place < 13321 }
