@@ -13,10 +13,10 @@ use Rattle.l3_base.specs.declared.rate.Channels.{Channels}
 use Rattle.l3_base.specs.declared.rate.Channels.TheVariants.{Mono, Stereo}
 use Rattle.l3_stream.specs.declared.unit.Unit.{Unit}
 use Rattle.l3_stream.specs.declared.unit.ChosenFrame.{ChosenFrame}
-use Rattle.l3_stream.specs.Units.{IsCodedUnit, pairs_code, PairsHold, pairs_of, quads_code, QuadsHold, quads_of, table_at, unit_bits}
+use Rattle.l3_stream.specs.Units.{IsCodedUnit, line_at, four_from, pairs_code, PairsHold, pairs_of, quads_code, QuadsHold, quads_of, table_at, unit_bits}
 use Rattle.l3_stream.specs.Frames.{IsCoded, units_of, units_bits, code_bits}
 use Rattle.l3_stream.specs.Coded.{IsCodedGranule}
-use Rattle.l3_stream.proofs.Lines.{line_at, quad_from, pairs_code-next, PairsHold-next, quads_code-next, QuadsHold-next}
+use Rattle.l3_stream.proofs.Lines.{pairs_code-next, PairsHold-next, quads_code-next, QuadsHold-next}
 use Rattle.l3_stream.proofs.Shapes.{frame_coded, two_of}
 use Rattle.l3_stream.proofs.WholeFrame.{code_bits-is}
 use Rattle.l3_frames.specs.Laying.{granule_bits, laid_over}
@@ -100,21 +100,25 @@ pub pair_held : (table : ℕ → ℕ) (lines : List ℤ) (k at place : ℕ) (old
     HoldsPair (table (2 * k)) (line_at lines (2 * k)) (line_at lines (2 * k + 1))
 pair_held table lines k at place old now inside laid = (PairsHold-next table lines (2 * k) inside laid.held).0
 
-pub pair_room : (table : ℕ → ℕ) (lines : List ℤ) (k at place : ℕ) (old now : List ℕ) (size : ℕ) → 2 * k + 1 < length lines → PairsLaid table lines k at place old now →
-    at + length (pairs_code table 0 lines) ≤ 8 * length old → size ≡ length (pair_code_of (table (2 * k)) (line_at lines (2 * k)) (line_at lines (2 * k + 1))) → place + size ≤ 8 * length old
-pair_room table lines k at place old now size inside laid room is =
-    let left = room_left (pairs_code table 0 lines) (pairs_code table (2 * k) (drop (2 * k) lines)) (pair_code_of (table (2 * k)) (line_at lines (2 * k)) (line_at lines (2 * k + 1)))
-    (pairs_code table (2 * k + 2) (drop (2 * k + 2) lines)) at place old now laid.laid (pairs_code-next table lines (2 * k) inside) room in
-    omega arith
+pub pair_room : (table : ℕ → ℕ) (lines : List ℤ) (k at place : ℕ) (old now : List ℕ) → 2 * k + 1 < length lines →
+    PairsLaid table lines k at place old now → at + length (pairs_code table 0 lines) ≤ 8 * length old →
+    place + length (pair_code_of (table (2 * k)) (line_at lines (2 * k)) (line_at lines (2 * k + 1))) ≤ 8 * length old
+pair_room table lines k at place old now inside laid room =
+    room_left (pairs_code table 0 lines) (pairs_code table (2 * k) (drop (2 * k) lines))
+    (pair_code_of (table (2 * k)) (line_at lines (2 * k)) (line_at lines (2 * k + 1)))
+    (pairs_code table (2 * k + 2) (drop (2 * k + 2) lines)) at place old now laid.laid (pairs_code-next table lines (2 * k) inside) room
 
-pub one_pair_laid : (table : ℕ → ℕ) (lines : List ℤ) (k at place next : ℕ) (old mid now : List ℕ) (code : List Bool) → 2 * k + 1 < length lines → PairsLaid table lines k at place old mid →
-    at + length (pairs_code table 0 lines) ≤ 8 * length old → code ≡ pair_code_of (table (2 * k)) (line_at lines (2 * k)) (line_at lines (2 * k + 1)) →
-    bits_of now ≡ laid_over place code (bits_of mid) → next ≡ place + length code → PairsLaid table lines (k + 1) at next old now
-one_pair_laid table lines k at place next old mid now code inside laid room is written end =
+pub one_pair_laid : (table : ℕ → ℕ) (lines : List ℤ) (k at place next : ℕ) (old mid now : List ℕ) → 2 * k + 1 < length lines →
+    PairsLaid table lines k at place old mid → at + length (pairs_code table 0 lines) ≤ 8 * length old →
+    bits_of now ≡ laid_over place (pair_code_of (table (2 * k)) (line_at lines (2 * k)) (line_at lines (2 * k + 1))) (bits_of mid) →
+    next ≡ place + length (pair_code_of (table (2 * k)) (line_at lines (2 * k)) (line_at lines (2 * k + 1))) →
+    PairsLaid table lines (k + 1) at next old now
+one_pair_laid table lines k at place next old mid now inside laid room written end =
+    let code = pair_code_of (table (2 * k)) (line_at lines (2 * k)) (line_at lines (2 * k + 1)) in
     let e : 2 * (k + 1) ≡ 2 * k + 2 = omega arith in
     let whole = pairs_code table 0 lines in
     let later = pairs_code table (2 * k + 2) (drop (2 * k + 2) lines) in
-    let first : pairs_code table (2 * k) (drop (2 * k) lines) ≡ code ++ later = pairs_code-next table lines (2 * k) inside ∙ ap (λ l. l ++ later) (sym is) in
+    let first : pairs_code table (2 * k) (drop (2 * k) lines) ≡ code ++ later = pairs_code-next table lines (2 * k) inside in
     let step = one_laid whole (pairs_code table (2 * k) (drop (2 * k) lines)) code later at place next old mid now laid.laid first room written end in
     let left = (PairsHold-next table lines (2 * k) inside laid.held).1 in
     record {
@@ -128,24 +132,26 @@ all_pairs_laid table lines k at place old now le laid =
     all_laid (pairs_code table 0 lines) (pairs_code table (2 * k) (drop (2 * k) lines)) at place old now laid.laid
     (ap (pairs_code table (2 * k)) (none_left lines (2 * k) le) ∙ pairs_code-nil table (2 * k))
 
-pub quad_held : (table : QuadTable) (lines : List ℤ) (k at place : ℕ) (old now : List ℕ) → 4 * k + 3 < length lines → QuadsLaid table lines k at place old now → IsQuad (quad_from lines (4 * k))
+pub quad_held : (table : QuadTable) (lines : List ℤ) (k at place : ℕ) (old now : List ℕ) → 4 * k + 3 < length lines → QuadsLaid table lines k at place old now → IsQuad (four_from lines (4 * k))
 quad_held table lines k at place old now inside laid = (QuadsHold-next lines (4 * k) inside laid.held).0
 
-pub quad_room : (table : QuadTable) (lines : List ℤ) (k at place : ℕ) (old now : List ℕ) (size : ℕ) → 4 * k + 3 < length lines → QuadsLaid table lines k at place old now →
-    at + length (quads_code table lines) ≤ 8 * length old → size ≡ length (quad_code_of table (quad_from lines (4 * k))) → place + size ≤ 8 * length old
-quad_room table lines k at place old now size inside laid room is =
-    let left = room_left (quads_code table lines) (quads_code table (drop (4 * k) lines)) (quad_code_of table (quad_from lines (4 * k)))
-    (quads_code table (drop (4 * k + 4) lines)) at place old now laid.laid (quads_code-next table lines (4 * k) inside) room in
-    omega arith
+pub quad_room : (table : QuadTable) (lines : List ℤ) (k at place : ℕ) (old now : List ℕ) → 4 * k + 3 < length lines →
+    QuadsLaid table lines k at place old now → at + length (quads_code table lines) ≤ 8 * length old →
+    place + length (quad_code_of table (four_from lines (4 * k))) ≤ 8 * length old
+quad_room table lines k at place old now inside laid room =
+    room_left (quads_code table lines) (quads_code table (drop (4 * k) lines)) (quad_code_of table (four_from lines (4 * k)))
+    (quads_code table (drop (4 * k + 4) lines)) at place old now laid.laid (quads_code-next table lines (4 * k) inside) room
 
-pub one_quad_laid : (table : QuadTable) (lines : List ℤ) (k at place next : ℕ) (old mid now : List ℕ) (code : List Bool) → 4 * k + 3 < length lines → QuadsLaid table lines k at place old mid →
-    at + length (quads_code table lines) ≤ 8 * length old → code ≡ quad_code_of table (quad_from lines (4 * k)) →
-    bits_of now ≡ laid_over place code (bits_of mid) → next ≡ place + length code → QuadsLaid table lines (k + 1) at next old now
-one_quad_laid table lines k at place next old mid now code inside laid room is written end =
+pub one_quad_laid : (table : QuadTable) (lines : List ℤ) (k at place next : ℕ) (old mid now : List ℕ) → 4 * k + 3 < length lines →
+    QuadsLaid table lines k at place old mid → at + length (quads_code table lines) ≤ 8 * length old →
+    bits_of now ≡ laid_over place (quad_code_of table (four_from lines (4 * k))) (bits_of mid) →
+    next ≡ place + length (quad_code_of table (four_from lines (4 * k))) → QuadsLaid table lines (k + 1) at next old now
+one_quad_laid table lines k at place next old mid now inside laid room written end =
+    let code = quad_code_of table (four_from lines (4 * k)) in
     let e : 4 * (k + 1) ≡ 4 * k + 4 = omega arith in
     let whole = quads_code table lines in
     let later = quads_code table (drop (4 * k + 4) lines) in
-    let first : quads_code table (drop (4 * k) lines) ≡ code ++ later = quads_code-next table lines (4 * k) inside ∙ ap (λ l. l ++ later) (sym is) in
+    let first : quads_code table (drop (4 * k) lines) ≡ code ++ later = quads_code-next table lines (4 * k) inside in
     let step = one_laid whole (quads_code table (drop (4 * k) lines)) code later at place next old mid now laid.laid first room written end in
     let left = (QuadsHold-next lines (4 * k) inside laid.held).1 in
     record {

@@ -1,9 +1,11 @@
 //! The main data of a frame: the codes of its units, laid over the bits of the tape
 //! (ISO/IEC 11172-3, 2.4).
 
-ghost use Rattle.std.specs.Prelude.{◌≡◌, ◌+◌, ◌*◌, ◌<◌, ◌≤◌, ◌^◌, ◌++◌, length, nat_lt, if◌then◌else◌, All};
+ghost use Rattle.std.specs.Prelude.{◌≡◌, ◌+◌, ◌*◌, ◌<◌, ◌≤◌, ◌^◌, ◌++◌, length, All};
 ghost use Rattle.l3_bits.specs.Bits.{bits_of, digits};
-ghost use Rattle.l3_stream.specs.Units.{HasFields, IsCodedUnit, PairsHold, QuadsHold, edge, pairs_code, pairs_of, quads_code, quads_of, table_at, unit_bits};
+ghost use Rattle.l3_huff.specs.Codes.{IsQuad, pair_code_of, quad_code_of};
+ghost use Rattle.l3_huff.specs.Laws.{HoldsPair};
+ghost use Rattle.l3_stream.specs.Units.{HasFields, IsCodedUnit, PairsHold, QuadsHold, line_at, pairs_code, quads_code, table_at, unit_bits};
 ghost use Rattle.l3_stream.specs.Frames.{IsCoded, code_bits};
 ghost use Rattle.l3_stream.specs.Coded.{IsCodedGranule};
 ghost use Rattle.l3_frames.specs.Laying.{granule_bits, laid_over};
@@ -11,7 +13,7 @@ ghost use Rattle.l3_frames.specs.Laying.{granule_bits, laid_over};
 use l3_base::{Channels, Settings};
 use l3_bits::put_bits;
 use l3_huff::{Code, QuadTable, pair_code, quad_code};
-use l3_stream::{ChosenFrame, Regions, Unit};
+use l3_stream::{ChosenFrame, Regions, Unit, four_from, two_from};
 
 // Lays the codes of a coded frame over the bits from bit `at` on, granule by granule.
 pub(crate) fn write_codes(settings: &Settings, frame: &ChosenFrame, out: &mut [u8], at: u64)
@@ -68,8 +70,7 @@ fn write_pairs(settings: &Settings, unit: &Unit, lines: &[i16], out: &mut [u8], 
     let regions = Regions::of(settings, unit);
     let mut place = at;
     for k in 0..usize::from(unit.big) {
-        let code = pair_code(regions.table(2 * k), lines[2 * k], lines[2 * k + 1]);
-        place = write_code(code, out, place);
+        place = write_pair(regions.table(2 * k), two_from(lines, 2 * k), out, place);
     }
     place
 }
@@ -86,16 +87,31 @@ fn write_quads(table: QuadTable, count: u16, lines: &[i16], out: &mut [u8], at: 
 {
     let mut place = at;
     for k in 0..usize::from(count) {
-        let first = 4 * k;
-        let quad = [
-            lines[first],
-            lines[first + 1],
-            lines[first + 2],
-            lines[first + 3],
-        ];
-        place = write_code(quad_code(table, quad), out, place);
+        place = write_quad(table, four_from(lines, 4 * k), out, place);
     }
     place
+}
+
+// Lays the code of a pair, and answers with the place behind it.
+fn write_pair(table: u8, pair: [i16; 2], out: &mut [u8], at: u64) -> u64
+    requires held { HoldsPair table (line_at pair 0) (line_at pair 1) }
+    requires within { at + length (pair_code_of table (line_at pair 0) (line_at pair 1)) ≤ 8 * length out.old }
+    requires room { length out.old ≤ 2 ^ 16 }
+    ensures bits { bits_of out.new ≡ laid_over at (pair_code_of table (line_at pair 0) (line_at pair 1)) (bits_of out.old) }
+    ensures place { result ≡ at + length (pair_code_of table (line_at pair 0) (line_at pair 1)) }
+{
+    write_code(pair_code(table, pair[0], pair[1]), out, at)
+}
+
+// Lays the code of a quadruple, and answers with the place behind it.
+fn write_quad(table: QuadTable, quad: [i16; 4], out: &mut [u8], at: u64) -> u64
+    requires small { IsQuad quad }
+    requires within { at + length (quad_code_of table quad) ≤ 8 * length out.old }
+    requires room { length out.old ≤ 2 ^ 16 }
+    ensures bits { bits_of out.new ≡ laid_over at (quad_code_of table quad) (bits_of out.old) }
+    ensures place { result ≡ at + length (quad_code_of table quad) }
+{
+    write_code(quad_code(table, quad), out, at)
 }
 
 // Lays one code, and answers with the place behind it.

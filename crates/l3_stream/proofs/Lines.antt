@@ -5,11 +5,7 @@ use Rattle.std.proofs.lemmas.List.{length-drop, nil_from_length, get_or-replicat
 use Rattle.l3_huff.specs.declared.quads.QuadTable.{QuadTable}
 use Rattle.l3_huff.specs.Codes.{IsQuad, pair_code_of, quad_code_of}
 use Rattle.l3_huff.specs.Laws.{HoldsPair}
-use Rattle.l3_stream.specs.Units.{pairs_code, PairsHold, quads_code, QuadsHold, zero_lines}
-
--- the line at a place
-abbrev pub line_at : List ℤ → ℕ → ℤ
-line_at lines i = get_or lines i (pos 0)
+use Rattle.l3_stream.specs.Units.{line_at, four_from, pairs_code, PairsHold, quads_code, QuadsHold, zero_lines}
 
 one_next : (lines : List ℤ) (at next : ℕ) → at < length lines → next ≡ at + 1 → drop at lines ≡ line_at lines at ∷ drop next lines
 one_next lines at next lt e = drop-cons lines at (pos 0) lt ∙ ap (λ n. line_at lines at ∷ drop n lines) (sym (e ∙ add-one at))
@@ -19,13 +15,6 @@ pub two_next : (lines : List ℤ) (at : ℕ) → at + 1 < length lines → drop 
 two_next lines at lt =
     one_next lines at (at + 1) (omega arith) refl
     ∙ ap (λ l. line_at lines at ∷ l) (one_next lines (at + 1) (at + 2) lt (omega arith))
-
--- four lines of a place
-abbrev pub quad_from : List ℤ → ℕ → List ℤ
-quad_from lines at = line_at lines at ∷ line_at lines (at + 1) ∷ line_at lines (at + 2) ∷ line_at lines (at + 3) ∷ []
-
-pub same_quad : (lines : List ℤ) (at : ℕ) (v w x y : ℤ) → v ≡ line_at lines at → w ≡ line_at lines (at + 1) → x ≡ line_at lines (at + 2) → y ≡ line_at lines (at + 3) → v ∷ w ∷ x ∷ y ∷ [] ≡ quad_from lines at
-same_quad lines at v w x y a b c d = rw (a, b, c, d) refl
 
 pub four_next : (lines : List ℤ) (at : ℕ) → at + 3 < length lines → drop at lines ≡ line_at lines at ∷ line_at lines (at + 1) ∷ line_at lines (at + 2) ∷ line_at lines (at + 3) ∷ drop (at + 4) lines
 four_next lines at lt =
@@ -114,7 +103,7 @@ all_pairs table lines k bits le so_far =
 -- ---- quadruples
 
 pub quads_code-next : (table : QuadTable) (lines : List ℤ) (at : ℕ) → at + 3 < length lines →
-    quads_code table (drop at lines) ≡ quad_code_of table (quad_from lines at) ++ quads_code table (drop (at + 4) lines)
+    quads_code table (drop at lines) ≡ quad_code_of table (four_from lines at) ++ quads_code table (drop (at + 4) lines)
 unfolding quads_code
 quads_code-next table lines at lt = ap (quads_code table) (four_next lines at lt)
 
@@ -127,7 +116,7 @@ unfolding QuadsHold
 QuadsHold-nil = tt
 
 abbrev NextQuadsHold : List ℤ → ℕ → Type 0
-NextQuadsHold lines at = IsQuad (quad_from lines at) × QuadsHold (drop (at + 4) lines)
+NextQuadsHold lines at = IsQuad (four_from lines at) × QuadsHold (drop (at + 4) lines)
 
 pub QuadsHold-next : (lines : List ℤ) (at : ℕ) → at + 3 < length lines → QuadsHold (drop at lines) → NextQuadsHold lines at
 unfolding QuadsHold
@@ -148,11 +137,11 @@ pub no_quads : (table : QuadTable) (lines : List ℤ) → QuadsSoFar table lines
 no_quads table lines = record { counted = omega arith; enough = λ h. h; needed = λ h. h; small = omega arith }
 
 pub one_quad_more : (table : QuadTable) (lines : List ℤ) (k bits more : ℕ) → 4 * k + 3 < length lines → QuadsSoFar table lines k bits →
-    more ≡ length (quad_code_of table (quad_from lines (4 * k))) → IsQuad (quad_from lines (4 * k)) → more ≤ 10 → QuadsSoFar table lines (k + 1) (bits + more)
+    more ≡ length (quad_code_of table (four_from lines (4 * k))) → IsQuad (four_from lines (4 * k)) → more ≤ 10 → QuadsSoFar table lines (k + 1) (bits + more)
 one_quad_more table lines k bits more lt so_far counts is small =
     let at = 4 * k in
     let next : 4 * (k + 1) ≡ 4 * k + 4 = omega arith in
-    let code = quad_code_of table (quad_from lines at) in
+    let code = quad_code_of table (four_from lines at) in
     let later = quads_code table (drop (at + 4) lines) in
     let before = so_far.counted in
     let bound = so_far.small in
@@ -163,7 +152,7 @@ one_quad_more table lines k bits more lt so_far counts is small =
       small = omega arith;
     }
 
-pub quad_refused : (table : QuadTable) (lines : List ℤ) (k bits : ℕ) → 4 * k + 3 < length lines → QuadsSoFar table lines k bits → (IsQuad (quad_from lines (4 * k)) → ⊥) → QuadsHold lines → ⊥
+pub quad_refused : (table : QuadTable) (lines : List ℤ) (k bits : ℕ) → 4 * k + 3 < length lines → QuadsSoFar table lines k bits → (IsQuad (four_from lines (4 * k)) → ⊥) → QuadsHold lines → ⊥
 quad_refused table lines k bits lt so_far refused h = refused (QuadsHold-next lines (4 * k) lt (so_far.needed h)).0
 
 -- all quadruples are held, and have so many bits

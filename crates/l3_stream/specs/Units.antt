@@ -1,6 +1,6 @@
 -- A unit, one channel of one granule: its codes, and when it is coded (ISO/IEC 11172-3, 2.4, the
 -- main data).
-use Rattle.std.specs.Prelude.{◌≡◌, ℕ, ◌+◌, ◌-◌, ◌*◌, ◌≤◌, ◌<◌, ◌^◌, Bool, List, [], ◌∷◌, ◌++◌, length, replicate, take, drop, ℤ, pos, nat_lt, if◌then◌else◌, slice_index, ⊤}
+use Rattle.std.specs.Prelude.{◌≡◌, ℕ, ◌+◌, ◌-◌, ◌*◌, ◌≤◌, ◌<◌, ◌^◌, Bool, List, [], ◌∷◌, ◌++◌, length, replicate, take, drop, ℤ, pos, nat_lt, if◌then◌else◌, slice_index, get_or, ⊤}
 use Rattle.l3_base.specs.declared.settings.Settings.{Settings}
 use Rattle.l3_base.specs.Rates.{hertz_index_of}
 use Rattle.l3_tables.specs.Bands.{edge_at}
@@ -37,6 +37,17 @@ pub record LineTables : Type 0 where
 -- the table of the pair that begins at a line
 unfoldable pub table_by : LineTables → ℕ → ℕ
 table_by t line = slice_index t.tables (region_by t.second t.third line)
+
+-- the line at a place
+abbrev pub line_at : List ℤ → ℕ → ℤ
+line_at lines at = get_or lines at (pos 0)
+
+-- two lines, and four, from a place on
+abbrev pub two_from : List ℤ → ℕ → List ℤ
+two_from lines at = line_at lines at ∷ line_at lines (at + 1) ∷ []
+
+abbrev pub four_from : List ℤ → ℕ → List ℤ
+four_from lines at = line_at lines at ∷ line_at lines (at + 1) ∷ line_at lines (at + 2) ∷ line_at lines (at + 3) ∷ []
 
 -- ---- the codes of lines, `table` giving the table of the pair that begins at a line
 

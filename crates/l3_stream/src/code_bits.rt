@@ -4,10 +4,10 @@ ghost use Rattle.std.specs.Prelude.{◌≡◌, ◌≤◌, ◌+◌, ◌*◌, ◌�
 ghost use Rattle.l3_base.specs.Rates.{hertz_index_of};
 ghost use Rattle.l3_huff.specs.Codes.{IsQuad, pair_code_of, quad_code_of};
 ghost use Rattle.l3_huff.specs.Laws.{HoldsPair};
-ghost use Rattle.l3_stream.specs.Units.{HasFields, PairsHold, QuadsHold, edge, pairs_code, quads_code, table_at};
+ghost use Rattle.l3_stream.specs.Units.{HasFields, line_at, PairsHold, QuadsHold, edge, pairs_code, quads_code, table_at};
 
 use crate::regions::Regions;
-use crate::unit::Unit;
+use crate::unit::{Unit, four_from, two_from};
 use l3_base::Settings;
 use l3_huff::{QuadTable, holds, pair_bits, quad_bits};
 
@@ -24,7 +24,7 @@ pub(crate) fn bits_of_pairs(settings: &Settings, unit: &Unit, lines: &[i16]) -> 
     let regions = Regions::of(settings, unit);
     let mut bits = 0u32;
     for k in 0..usize::from(unit.big) {
-        match bits_of_pair(regions.table(2 * k), lines[2 * k], lines[2 * k + 1]) {
+        match bits_of_pair(regions.table(2 * k), two_from(lines, 2 * k)) {
             None => return None,
             Some(more) => bits += more,
         }
@@ -44,11 +44,7 @@ pub(crate) fn bits_of_quads(table: QuadTable, count: u16, lines: &[i16]) -> Opti
 {
     let mut bits = 0u32;
     for k in 0..usize::from(count) {
-        let at = 4 * k;
-        match bits_of_quad(
-            table,
-            [lines[at], lines[at + 1], lines[at + 2], lines[at + 3]],
-        ) {
+        match bits_of_quad(table, four_from(lines, 4 * k)) {
             None => return None,
             Some(more) => bits += more,
         }
@@ -57,14 +53,14 @@ pub(crate) fn bits_of_quads(table: QuadTable, count: u16, lines: &[i16]) -> Opti
 }
 
 // The bits of a pair's code, or nothing where the table does not hold it.
-fn bits_of_pair(table: u8, x: i16, y: i16) -> Option<u32>
-    ensures value { IfSome result (λ bits. bits ≡ length (pair_code_of table x y)) }
-    ensures held { IfSome result (λ _. HoldsPair table x y) }
+fn bits_of_pair(table: u8, pair: [i16; 2]) -> Option<u32>
+    ensures value { IfSome result (λ bits. bits ≡ length (pair_code_of table (line_at pair 0) (line_at pair 1))) }
+    ensures held { IfSome result (λ _. HoldsPair table (line_at pair 0) (line_at pair 1)) }
     ensures limit { IfSome result (λ bits. bits ≤ 40) }
-    ensures none { IfNone result (HoldsPair table x y → ⊥) }
+    ensures none { IfNone result (HoldsPair table (line_at pair 0) (line_at pair 1) → ⊥) }
 {
-    let x = x.unsigned_abs();
-    let y = y.unsigned_abs();
+    let x = pair[0].unsigned_abs();
+    let y = pair[1].unsigned_abs();
     if holds(table, x) && holds(table, y) {
         Some(pair_bits(table, x, y))
     } else {

@@ -1,13 +1,14 @@
 //! The words of a stream: units, frames, side information, the joined main data, and the bytes that
 //! frames spell.
 //!
-//! A frame of quantised lines -> whether it can be coded. What its bits are, and how they are read
+//! A frame of quantised lines -> whether it can be coded, and where its lines stand: which are
+//! pairs, quadruples and zeros, and which table a pair has. What its bits are, and how they are read
 //! again, is this crate's definitions.
 //! The syntax is that of Layer III (ISO/IEC 11172-3, clause 2.4), as far as the profile has it. The
 //! codes of the units of all frames stand on one row of bits, the tape: the main data of all frames
 //! joined, headers and side information left out.
-//! Before: the count that chose a unit's fields, and the code tables. After: the frame writer and
-//! the stream reader, which cite these words.
+//! Before: `l3_huff` (code tables), `l3_tables` (bands), `l3_bits`. After: `l3_side`, the frame
+//! writer, the stream reader and the committer, which cite these words.
 #![tactic(auto)]
 
 mod code_bits;
@@ -25,7 +26,7 @@ pub use laws::{
     tape_by_positions, worked_readings,
 };
 pub use regions::{Regions, first_line};
-pub use unit::{ChosenFrame, Unit, granule_length};
+pub use unit::{ChosenFrame, Unit, four_from, granule_length, two_from};
 
 #[cfg(test)]
 mod tests;

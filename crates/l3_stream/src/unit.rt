@@ -1,7 +1,7 @@
 //! Units and frames, and which lines of a unit are pairs, quadruples and zeros.
 
 ghost use Rattle.std.specs.Prelude.{◌≡◌, ◌≤◌, ◌<◌, ◌+◌, ◌-◌, ◌*◌, ◌^◌, drop, length};
-ghost use Rattle.l3_stream.specs.Units.{lengths, pairs_of, quads_of};
+ghost use Rattle.l3_stream.specs.Units.{four_from, lengths, pairs_of, quads_of, two_from};
 ghost use Rattle.l3_stream.specs.Frames.{blank, main_data_length};
 
 use l3_huff::QuadTable;
@@ -109,6 +109,24 @@ pub fn granule_length(units: &[Unit; 2]) -> u64
     ensures limit { result < 2 ^ 17 }
 {
     unit_length(&units[0]) + unit_length(&units[1])
+}
+
+/// Two lines from a place on: a pair.
+#[inline(always)]
+pub fn two_from(lines: &[i16], at: usize) -> [i16; 2]
+    requires { at + 1 < length lines.now }
+    ensures { result ≡ two_from lines.now at }
+{
+    [lines[at], lines[at + 1]]
+}
+
+/// Four lines from a place on: a quadruple.
+#[inline(always)]
+pub fn four_from(lines: &[i16], at: usize) -> [i16; 4]
+    requires { at + 3 < length lines.now }
+    ensures { result ≡ four_from lines.now at }
+{
+    [lines[at], lines[at + 1], lines[at + 2], lines[at + 3]]
 }
 
 // `part2_3_length` of a unit.

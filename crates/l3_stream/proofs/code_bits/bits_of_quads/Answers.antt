@@ -1,7 +1,6 @@
-use Rattle.std.proofs.Common.{arith, ◌*◌, ◌+◌, ◌<◌, length, ap, sym, subst, ◌∙◌, FitsSigned, w16, rules}
-use Rattle.std.proofs.lemmas.Int.{to_z-of_z}
+use Rattle.std.proofs.Common.{arith, ◌*◌, ◌+◌, ◌<◌, length, ap, sym, subst, ◌∙◌}
 use Rattle.l3_huff.specs.Codes.{IsQuad, quad_code_of}
-use Rattle.l3_stream.proofs.Lines.{line_at, same_quad, one_quad_more, quad_refused, all_quads}
+use Rattle.l3_stream.proofs.Lines.{one_quad_more, quad_refused, all_quads}
 use Rattle.l3_stream.proofs.code_bits.bits_of_quads.Goals as goal
 
 pub returns-in-None-clause-none : goal.returns-in-None-clause-none
@@ -9,25 +8,16 @@ returns-in-None-clause-none c =
     let k = c.loop-k.k in
     let lines = c.args.lines.now in
     let inside : 4 * k + 3 < length lines = omega (arith, c.requires.whole, c.loop-k-test.true) in
-    let fits_v : FitsSigned w16 (line_at lines (4 * k)) = search rules in
-    let fits_w : FitsSigned w16 (line_at lines (4 * k + 1)) = search rules in
-    let fits_x : FitsSigned w16 (line_at lines (4 * k + 2)) = search rules in
-    let fits_y : FitsSigned w16 (line_at lines (4 * k + 3)) = search rules in
-    let same = same_quad lines (4 * k) _ _ _ _ (to_z-of_z w16 _ fits_v) (to_z-of_z w16 _ fits_w) (to_z-of_z w16 _ fits_x) (to_z-of_z w16 _ fits_y) in
-    quad_refused c.args.table lines k c.loop-k.bits inside c.loop-k.invariant (λ is. c.in-None.ensures.none (subst IsQuad (sym same) is))
+    quad_refused c.args.table lines k c.loop-k.bits inside c.loop-k.invariant (λ is. c.in-None.ensures.none (subst IsQuad (sym c.four_from.ensures) is))
 
 pub loop-k-preserved : goal.loop-k-preserved
 loop-k-preserved c =
     let k = c.loop-k.k in
     let lines = c.args.lines.now in
     let inside : 4 * k + 3 < length lines = omega (arith, c.requires.whole, c.loop-k-test.true) in
-    let fits_v : FitsSigned w16 (line_at lines (4 * k)) = search rules in
-    let fits_w : FitsSigned w16 (line_at lines (4 * k + 1)) = search rules in
-    let fits_x : FitsSigned w16 (line_at lines (4 * k + 2)) = search rules in
-    let fits_y : FitsSigned w16 (line_at lines (4 * k + 3)) = search rules in
-    let same = same_quad lines (4 * k) _ _ _ _ (to_z-of_z w16 _ fits_v) (to_z-of_z w16 _ fits_w) (to_z-of_z w16 _ fits_x) (to_z-of_z w16 _ fits_y) in
-    let value = c.in-Some.ensures.value ∙ ap (λ quad. length (quad_code_of c.args.table quad)) same in
-    one_quad_more c.args.table lines k c.loop-k.bits c.in-Some.more inside c.loop-k.invariant value (subst IsQuad same c.in-Some.ensures.held) c.in-Some.ensures.limit
+    let quad = c.four_from.ensures in
+    one_quad_more c.args.table lines k c.loop-k.bits c.in-Some.more inside c.loop-k.invariant
+    (c.in-Some.ensures.value ∙ ap (λ l. length (quad_code_of c.args.table l)) quad) (subst IsQuad quad c.in-Some.ensures.held) c.in-Some.ensures.limit
 
 pub returns-clause-value : goal.returns-clause-value
 returns-clause-value c =
