@@ -96,7 +96,8 @@ impl Guesser for Last {
     }
 }
 
-/// Guesses the mean of the last eight that it was told, or of all where they are fewer, rounded down, and 0 before.
+/// Guesses the mean of the last eight that it was told, or of all where they are fewer, rounded
+/// down, and 0 before.
 #[derive(Debug, Drop)]
 pub struct Mean {
     told: ArrayVec<u32, 8>,

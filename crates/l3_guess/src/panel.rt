@@ -24,9 +24,9 @@ pub trait Standings {
 
 /// Several guessers, of which the one that has done best so far is asked.
 ///
-/// A member's score is the sum of the distances between its guesses and the reserves that were told, each guess taken
-/// before the member is told; it stands at 2^128 - 1. After each 256th tell the worst member is dropped, while there
-/// are others.
+/// A member's score is the sum of the distances between its guesses and the reserves that were
+/// told, each guess taken before the member is told; it stands at 2^128 - 1. After each 256th tell
+/// the worst member is dropped, while there are others.
 #[derive(Drop)]
 pub struct Panel {
     members: Vec<Member>,
@@ -77,7 +77,8 @@ impl Panel {
         self.members[place].score
     }
 
-    /// Drops the member of greatest score, the last of several, and gives its place: `None` where only one is left.
+    /// Drops the member of greatest score, the last of several, and gives its place: `None` where
+    /// only one is left.
     pub fn drop_worst(&mut self) -> Option<usize>
         ensures one { let standings = ⟦<Panel as Standings>⟧ in IfNone result
             (length (standings.scores self.old) ≡ 1) }

@@ -22,7 +22,8 @@ RoseOrSteady = (before now : ℕ) → IsSteady before now ⊎ Rose before now
 abbrev pub NeverBoth : Type 0
 NeverBoth = (before now : ℕ) → IsSteady before now → Rose before now → ⊥
 
--- a count that can be, one up to the last, rose where it is greater now, or where it stands at the last, and nowhere else
+-- a count that can be, one up to the last, rose where it is greater now, or where it stands at the
+-- last, and nowhere else
 abbrev pub RoseIsGreater : Type 0
 RoseIsGreater = (before now : ℕ) → before ≤ now → now ≤ last_count
     → Rose before now ↔ ((before < now) ⊎ ((before ≡ last_count) × (now ≡ last_count)))

@@ -72,7 +72,8 @@ impl Sink for MemSink {
         ensures cause { WriteHasCause (min self.old.faults last_count) (min self.new.faults last_count) result piece.now }
         ensures no_bytes { length piece.now ≡ 0 → (result ≡ Ok 0) × (self.new ≡ self.old) }
 
-        // Just the writes that were named fail. Each of them, and each that takes nothing of some bytes, counts once.
+        // Just the writes that were named fail. Each of them, and each that takes nothing of some
+        // bytes, counts once.
         ensures fails { 0 < length piece.now → (IsErr result ↔ Contains self.old.fails self.old.writes) }
         ensures counted { OnErr result (self.new.faults ≡ count_after self.old.faults) }
         ensures full { IfOk result (λ n. n ≡ 0 → 0 < length piece.now → self.new.faults ≡ count_after self.old.faults) }

@@ -58,7 +58,8 @@ chunks_from-more (suc count) more format read bytes within enough =
     (λ known end rest low high. chunks_from-more count more known end rest high (omega (arith, enough, low)))
     ∙ sym (chunks_from-suc count format read bytes)))
 
--- so many bytes of a file were read, a chunk begins there, and the file says what the bytes from there on say
+-- so many bytes of a file were read, a chunk begins there, and the file says what the bytes from
+-- there on say
 pub record IsAt (bytes : List ℕ) (format : Option Format) (read : ℕ) (now : Option (List ℕ)) : Type 0 where
   pub count : ℕ
   pub passed : ℕ

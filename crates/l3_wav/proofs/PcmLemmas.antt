@@ -72,7 +72,8 @@ pairs_even (x ∷ y ∷ xs) even =
     let rest = pairs_even xs (omega (arith, even)) in
     (ap (λ n. suc n) rest.0, omega (arith, rest.1))
 
--- so many values have as many samples to the right as stand beside those to the left, which are no more
+-- so many values have as many samples to the right as stand beside those to the left, which are no
+-- more
 pub right_beside : (channels : Channels) (xs : List ℤ) → length xs % channels_of channels ≡ 0 →
     (length (right_of channels xs) ≡ right_count channels (length (left_of channels xs))) × (length (left_of channels xs) ≤ length xs)
 right_beside Mono xs whole = (refl, omega arith)
@@ -92,7 +93,8 @@ pub record HasValues (first samples : SamplesState) (left : List ℕ) (values : 
   pub whole : values ++ coming samples now ≡ coming first left
   pub after : drop samples.remaining now ≡ drop first.remaining left
 
--- the lists are the channels of some whole samples; where the source tells what it has left, of those that were read
+-- the lists are the channels of some whole samples; where the source tells what it has left, of
+-- those that were read
 pub record AreChannels (channels : Channels) (first samples : SamplesState) (left_first left_now : Option (List ℕ)) (lefts rights : List ℤ) : Type 0 where
   pub values : List ℤ
   pub samples_whole : length values % channels_of channels ≡ 0
@@ -186,7 +188,8 @@ pub none_coming : (channels : Channels) (failed : Bool) (left : List ℕ) → co
 none_coming Mono failed left = refl
 none_coming Stereo failed left = refl
 
--- the lists are the channels of all values that were to come, and the source has what follows the declared bytes
+-- the lists are the channels of all values that were to come, and the source has what follows the
+-- declared bytes
 pub record GivesAll (channels : Channels) (first : SamplesState) (left_first left_now : Option (List ℕ)) (lefts rights : List ℤ) : Type 0 where
   pub lefts_are : IfSome left_first (λ left. lefts ≡ left_of channels (coming first left))
   pub rights_are : IfSome left_first (λ left. rights ≡ right_of channels (coming first left))

@@ -1,4 +1,5 @@
--- Laws of heads, carried by `chunks_in_a_head`, and of the samples behind them, carried by `samples_of_a_file`.
+-- Laws of heads, carried by `chunks_in_a_head`, and of the samples behind them, carried by
+-- `samples_of_a_file`.
 use Rattle.std.specs.Prelude.{◌≡◌, ℕ, ◌+◌, ◌^◌, ◌<◌, ◌≤◌, List, ℤ, None, Ok, All, FitsSigned, length}
 use Rattle.std.specs.Int.{w16}
 use Rattle.l3_base.specs.declared.rate.Channels.{Channels}

@@ -31,7 +31,8 @@ abbrev pub right_count : Channels → ℕ → ℕ
 right_count Mono count = 0
 right_count Stereo count = count
 
--- why all samples were not read: one read failed, the last one, or there was no memory and no read failed
+-- why all samples were not read: one read failed, the last one, or there was no memory and no read
+-- failed
 abbrev pub PcmCause : ℕ → ℕ → PcmFault → Type 0
 PcmCause before now Read = now ≡ count_after before
 PcmCause before now Memory = now ≡ before

@@ -1,4 +1,5 @@
--- The values that the data of a WAV file stands for, one for each channel in turn, left before right.
+-- The values that the data of a WAV file stands for, one for each channel in turn, left before
+-- right.
 use Rattle.std.specs.Prelude.{◌≡◌, ℕ, ◌+◌, ◌-◌, ◌*◌, ◌/◌, ◌<◌, ◌≤◌, Bool, true, false, List, [], ◌∷◌, ℤ, Option, Some, length, take, drop, min, nat_lt, if◌then◌else◌}
 use Rattle.std.specs.Int.{cast_signed, w16}
 use Rattle.l3_base.specs.declared.rate.Channels.{Channels}
@@ -49,14 +50,16 @@ samples_after samples n wanted =
 abbrev pub left_after : SamplesState → ℕ → ℕ → List ℕ → List ℕ
 left_after samples n wanted left = if nat_lt n wanted then drop samples.remaining left else drop (2 * n) left
 
--- n values were read into the front of a buffer: all that it has room for, or all that were still to come
+-- n values were read into the front of a buffer: all that it has room for, or all that were still
+-- to come
 pub record ReadsValues (before : SamplesState) (left : List ℕ) (n : ℕ) (buffer : List ℤ) (left_now : Option (List ℕ)) : Type 0 where
   pub count : n ≡ min (length buffer) (length (coming before left))
   pub values : take n buffer ≡ take n (coming before left)
   pub rest : left_now ≡ Some (left_after before n (length buffer) left)
   pub others : coming (samples_after before n (length buffer)) (left_after before n (length buffer) left) ≡ drop n (coming before left)
 
--- the values of a block of so many wanted bytes, or of what is there of them, were read into the front of a buffer
+-- the values of a block of so many wanted bytes, or of what is there of them, were read into the
+-- front of a buffer
 pub record ReadsBlock (channels : Channels) (want : ℕ) (left : List ℕ) (count : ℕ) (is_whole : Bool) (buffer : List ℤ) (left_now : Option (List ℕ)) : Type 0 where
   pub bytes : 2 * count ≡ whole_bytes channels (length (take want left))
   pub values : take count buffer ≡ values_of (whole_samples channels (take want left))

@@ -20,7 +20,8 @@ abbrev pub ReadsBody : {T : Type 0} → ℕ → List ℕ → Option (List ℕ) �
 ReadsBody count bytes now (Ok known) said = HasPassed count bytes now × (said ≡ Ok known)
 ReadsBody count bytes now (Err fault) said = (HasPassed count bytes now × (said ≡ Err fault)) ⊎ EndsWithin count fault bytes now
 
--- the answer and what is left are what was said of the file; or a read failed, and of what goes before that some is gone
+-- the answer and what is left are what was said of the file; or a read failed, and of what goes
+-- before that some is gone
 abbrev pub Opens : List ℕ → Result WavHead WavFault → Option (List ℕ) → Said → Type 0
 Opens bytes result now said = ((result ≡ Err Read) × HasLost (length bytes - length said.left) bytes now)
     ⊎ ((said.answer ≡ result) × (now ≡ Some said.left))

@@ -1,6 +1,7 @@
 -- What the head of a WAV file says, and which fault refuses one.
--- A file is RIFF: 12 bytes of form WAVE, then chunks. A chunk is an id of 4 bytes, a size of 4, a body of so many bytes,
--- and one pad byte after an odd size. Every number has its low byte first. The head ends where the body of `data` begins.
+-- A file is RIFF: 12 bytes of form WAVE, then chunks. A chunk is an id of 4 bytes, a size of 4, a
+-- body of so many bytes, and one pad byte after an odd size. Every number has its low byte first.
+-- The head ends where the body of `data` begins.
 use Rattle.std.specs.Prelude.{◌≡◌, ◌≤◌, ℕ, suc, zero, ◌+◌, ◌*◌, ◌%◌, ◌==◌, ◌&&◌, ◌||◌, Bool, List, [], ◌∷◌, Option, Some, None, Result, Ok, Err, length, take, drop, min, nat_le, nat_lt, slice_index, slice_range, bytes_eq, codes, if◌then◌else◌}
 use Rattle.l3_base.specs.Rates.{channels_of}
 use Rattle.l3_base.specs.declared.rate.Channels.{Channels}
@@ -25,13 +26,14 @@ u32_at bytes at = u16_at bytes at + 65536 * u16_at bytes (at + 2)
 abbrev pub pcm_subformat : List ℕ
 pcm_subformat = 0x01 ∷ 0 ∷ 0 ∷ 0 ∷ 0 ∷ 0 ∷ 0x10 ∷ 0 ∷ 0x80 ∷ 0 ∷ 0 ∷ 0xAA ∷ 0 ∷ 0x38 ∷ 0x9B ∷ 0x71 ∷ []
 
--- the tag is 0xFFFE, and the subformat is PCM
-abbrev pub is_extensible_pcm : List ℕ → Bool
-is_extensible_pcm fields = u16_at fields 0 == 0xFFFE && (nat_le 40 (length fields) && bytes_eq (slice_range fields 24 40) pcm_subformat)
+-- the tag is WAVE_FORMAT_EXTENSIBLE, 0xFFFE, and the subformat is PCM
+abbrev pub is_wave_format_extensible : List ℕ → Bool
+is_wave_format_extensible fields = u16_at fields 0 == 0xFFFE && (nat_le 40 (length fields) && bytes_eq (slice_range fields 24 40) pcm_subformat)
 
--- the 16 bytes of fields that every format has are there, and they are PCM, in the plain form or the extensible one
+-- the 16 bytes of fields that every format has are there, and they are PCM: the tag is
+-- WAVE_FORMAT_PCM, 1, or the form is the extensible one
 abbrev pub is_pcm : List ℕ → Bool
-is_pcm fields = nat_le 16 (length fields) && (u16_at fields 0 == 1 || is_extensible_pcm fields)
+is_pcm fields = nat_le 16 (length fields) && (u16_at fields 0 == 1 || is_wave_format_extensible fields)
 
 -- the channels of which there are so many
 abbrev pub channels_named : ℕ → Option Channels
@@ -41,27 +43,35 @@ channels_named number = if number == 1 then Some Mono else (if number == 2 then 
 abbrev pub rate_named : ℕ → Option SampleRate
 rate_named hertz = if hertz == 44100 then Some Hz44100 else (if hertz == 48000 then Some Hz48000 else (if hertz == 32000 then Some Hz32000 else None))
 
--- depth and block align, the last two tests of a format
-abbrev pub format_by : Channels → Option SampleRate → List ℕ → Result Format WavFault
-format_by channels None fields = Err UnsupportedRate
-format_by channels (Some rate) fields =
-    if u16_at fields 14 == 16 then (if u16_at fields 12 == 2 * channels_of channels then Ok (record { channels = channels; rate = rate }) else Err BadBlockAlign) else Err UnsupportedDepth
+-- the depth is tested, and then the block align
+abbrev pub format_by_depth : Channels → SampleRate → List ℕ → Result Format WavFault
+format_by_depth channels rate fields =
+    if u16_at fields 14 == 16
+    then (if u16_at fields 12 == 2 * channels_of channels then Ok (record { channels = channels; rate = rate }) else Err BadBlockAlign)
+    else Err UnsupportedDepth
 
--- the sampling frequency and what follows
-abbrev pub format_with : Option Channels → List ℕ → Result Format WavFault
-format_with None fields = Err UnsupportedChannels
-format_with (Some channels) fields = format_by channels (rate_named (u32_at fields 4)) fields
+-- the sampling frequency is tested, and then the depth
+abbrev pub format_by_rate : Channels → Option SampleRate → List ℕ → Result Format WavFault
+format_by_rate channels None fields = Err UnsupportedRate
+format_by_rate channels (Some rate) fields = format_by_depth channels rate fields
 
--- what the fields of a format say: form, channels, sampling frequency, depth, block align, in this order
+-- the channels are tested, and then the sampling frequency
+abbrev pub format_by_channels : Option Channels → List ℕ → Result Format WavFault
+format_by_channels None fields = Err UnsupportedChannels
+format_by_channels (Some channels) fields = format_by_rate channels (rate_named (u32_at fields 4)) fields
+
+-- what the fields of a format say: form, channels, sampling frequency, depth, block align, in this
+-- order
 unfoldable pub format_of : List ℕ → Result Format WavFault
-format_of fields = if is_pcm fields then format_with (channels_named (u16_at fields 2)) fields else Err UnsupportedFormat
+format_of fields = if is_pcm fields then format_by_channels (channels_named (u16_at fields 2)) fields else Err UnsupportedFormat
 
 -- the same as what is known after its chunk
 abbrev pub known_by : Result Format WavFault → Result (Option Format) WavFault
 known_by (Ok format) = Ok (Some format)
 known_by (Err fault) = Err fault
 
--- the format that is known after a chunk: the first `fmt ` chunk tells it, and every other chunk is passed over
+-- the format that is known after a chunk: the first `fmt ` chunk tells it, and every other chunk is
+-- passed over
 abbrev pub format_after : Option Format → Bool → List ℕ → Result (Option Format) WavFault
 format_after (Some format) is_format fields = Ok (Some format)
 format_after None is_format fields = if is_format then known_by (format_of fields) else Ok None
@@ -101,7 +111,8 @@ head_limit = 1048576
 abbrev pub most_chunks : ℕ
 most_chunks = 131072
 
--- what the bytes say that a chunk begins, with the format known before it and so many bytes read before it
+-- what the bytes say that a chunk begins, with the format known before it and so many bytes read
+-- before it
 unfoldable pub chunks_from : ℕ → Option Format → ℕ → List ℕ → Said
 chunks_from zero format read bytes = record { answer = Err HeaderTooLong; left = bytes }
 chunks_from (suc count) format read bytes =

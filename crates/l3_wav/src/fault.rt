@@ -2,7 +2,8 @@ use thiserror::Error;
 
 /// Why a WAV file was not opened.
 ///
-/// The rules of the head are tried in the order of its bytes, and the first one that refuses decides.
+/// The rules of the head are tried in the order of its bytes, and the first one that refuses
+/// decides.
 #[derive(Clone, Copy, Debug, PartialEq, Eq, Error)]
 pub enum WavFault {
     #[error("no RIFF file of form WAVE")]

@@ -1,14 +1,14 @@
 ghost use Rattle.std.specs.Prelude.{◌≡◌, ◌≢◌, ◌+◌, ◌≤◌, ◌<◌, true, Err, length};
-ghost use Rattle.l3_wav.specs.Wav.{u16_at, u32_at, is_extensible_pcm, is_pcm, channels_named, rate_named, format_of};
+ghost use Rattle.l3_wav.specs.Wav.{u16_at, u32_at, is_wave_format_extensible, is_pcm, channels_named, rate_named, format_of};
 
 use crate::WavFault;
 use l3_base::{Channels, SampleRate};
 
-// The tag of PCM.
-const PCM: u16 = 1;
+// The tag of plain PCM.
+const WAVE_FORMAT_PCM: u16 = 1;
 
 // The tag of the extensible form, which has a subformat.
-const EXTENSIBLE: u16 = 0xFFFE;
+const WAVE_FORMAT_EXTENSIBLE: u16 = 0xFFFE;
 
 // The subformat PCM.
 const PCM_SUBFORMAT: [u8; 16] = *b"\x01\0\0\0\0\0\x10\0\x80\0\0\xAA\0\x38\x9B\x71";
@@ -40,11 +40,12 @@ pub fn u32_at(bytes: &[u8], at: usize) -> u32
 }
 
 // Whether the form is the extensible one, of PCM.
-fn is_extensible_pcm(fields: &[u8]) -> bool
+fn is_wave_format_extensible(fields: &[u8]) -> bool
     requires { 16 ≤ length fields.now }
-    ensures { result ≡ is_extensible_pcm fields.now }
+    ensures { result ≡ is_wave_format_extensible fields.now }
 {
-    u16_at(fields, 0) == EXTENSIBLE && (fields.len() >= 40 && &fields[24..40] == &PCM_SUBFORMAT[..])
+    u16_at(fields, 0) == WAVE_FORMAT_EXTENSIBLE
+        && (fields.len() >= 40 && &fields[24..40] == &PCM_SUBFORMAT[..])
 }
 
 // Whether these are the fields of PCM.
@@ -52,7 +53,8 @@ fn is_pcm(fields: &[u8]) -> bool
     ensures value { result ≡ is_pcm fields.now }
     ensures long { result ≡ true → 16 ≤ length fields.now }
 {
-    fields.len() >= 16 && (u16_at(fields, 0) == PCM || is_extensible_pcm(fields))
+    fields.len() >= 16
+        && (u16_at(fields, 0) == WAVE_FORMAT_PCM || is_wave_format_extensible(fields))
 }
 
 // The channels of which there are so many.

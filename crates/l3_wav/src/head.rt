@@ -122,20 +122,23 @@ fn read_chunks<S: Source>(source: &mut S) -> Result<WavHead, WavFault>
 
 /// Reads the head of a WAV file, and no byte after it.
 ///
-/// The format is PCM of 16 bits, plain or extensible, with one channel or two, at 44100, 48000 or 32000 Hz. The size of
-/// the file and the byte rate may be anything, and the data may declare more bytes than are there, as where it comes
-/// from a pipe. A second format chunk and chunks of other kinds are passed over.
+/// The format is PCM of 16 bits, plain or extensible, with one channel or two, at 44100, 48000 or
+/// 32000 Hz. The size of the file and the byte rate may be anything, and the data may declare more
+/// bytes than are there, as where it comes from a pipe. A second format chunk and chunks of other
+/// kinds are passed over.
 pub fn open<S: Source>(source: &mut S) -> Result<WavHead, WavFault>
     ensures told { IfSome (S.left source.old) (λ bytes. OpenGives (S.faults source.old) (S.faults source.new) result (wav_of bytes)) }
     ensures rest { OnOk result (IfSome (S.left source.old) (λ bytes. S.left source.new ≡ Some (after_head bytes))) }
     ensures refused { OnErr result (result ≢ Err WavFault.Read → IfSome (S.left source.old) (λ bytes. S.left source.new ≡ Some (after_head bytes))) }
 
-    // Even where a read failed no more is gone than the longest head and the first bytes of a chunk.
+    // Even where a read failed no more is gone than the longest head and the first bytes of a
+    // chunk.
     ensures some { OnErr result ((bytes : List ℕ) × (length bytes ≤ 1048584) × Consumes (S.left source.old) (S.left source.new) bytes) }
     ensures later { S.faults source.old ≤ S.faults source.new }
     ensures read { result ≡ Err WavFault.Read → Rose (S.faults source.old) (S.faults source.new) }
 
-    // Where a read failed it was the last one, and what is left is what the head's bytes leave, or more.
+    // Where a read failed it was the last one, and what is left is what the head's bytes leave, or
+    // more.
     ensures served { OnOk result (S.faults source.new ≡ S.faults source.old) }
     ensures cause { IfErr result (FaultCause (S.faults source.old) (S.faults source.new)) }
     ensures lost { result ≡ Err WavFault.Read → IfSome (S.left source.old) (λ bytes.

@@ -38,7 +38,8 @@ fn empty_block() -> [i16; BLOCK] {
     [0; BLOCK]
 }
 
-// Adds the values of whole samples of two channels, the first of each to `left` and the second to `right`.
+// Adds the values of whole samples of two channels, the first of each to `left` and the second to
+// `right`.
 fn add_pairs(values: &[i16], left: &mut Vec<i16>, right: &mut Vec<i16>) -> Result<(), AllocError>
     requires whole { length values.now % 2 ≡ 0 }
     ensures left { OnOk result (left.new.items ≡ left.old.items ++ firsts values.now) }

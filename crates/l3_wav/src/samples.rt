@@ -13,8 +13,9 @@ use std::marker::Model;
 
 /// The samples of a WAV file's data, given in order.
 ///
-/// Shape: one value of each channel in turn, left before right. Range: 16 bits. The data ends with the bytes that the
-/// head declares or with the source, whichever comes first; a rest of less than one value of each channel is dropped.
+/// Shape: one value of each channel in turn, left before right. Range: 16 bits. The data ends with
+/// the bytes that the head declares or with the source, whichever comes first; a rest of less than
+/// one value of each channel is dropped.
 #[derive(Drop)]
 pub struct Samples {
     channels: Channels,
@@ -42,8 +43,8 @@ impl Samples {
         }
     }
 
-    /// Reads the next values into the front of `out` and says how many: a number of whole samples, below the length of
-    /// `out` only where the data has ended.
+    /// Reads the next values into the front of `out` and says how many: a number of whole samples,
+    /// below the length of `out` only where the data has ended.
     pub fn next<S: Source>(&mut self, source: &mut S, out: &mut [i16]) -> Result<usize, ReadFault>
         requires room { 0 < length out.old }
         requires whole { length out.old % channels_of self.old.channels ≡ 0 }

@@ -88,6 +88,28 @@ fn refused_heads(rt: HostRuntime) -> Result<(), Fail> {
 }
 
 #[test]
+fn nothing_is_read_after_a_refusal(rt: HostRuntime) -> Result<(), Fail> {
+    for (bytes, fault) in [
+        (b"RIFX\x26\0\0\0WAVE\x07\x09".as_slice(), WavFault::NotRiff),
+        (
+            b"RIFF\x26\0\0\0WAVEdata\0\0\0\0\x07\x09".as_slice(),
+            WavFault::NoFmtBeforeData,
+        ),
+        (
+            b"RIFF\x26\0\0\0WAVEfmt \x01\0\0\0\0\0\x07\x09".as_slice(),
+            WavFault::UnsupportedFormat,
+        ),
+    ] {
+        let mut source = MemSource::new(rt.alloc(), bytes, 7, &[])?;
+        assert_eq!(rt; open(&mut source), Err(fault));
+        let mut rest = [1; 4];
+        assert_eq!(rt; source.read(&mut rest), Ok(2), "{fault:?}");
+        assert_eq!(rt; rest, [7, 9, 1, 1], "{fault:?}");
+    }
+    Ok(())
+}
+
+#[test]
 fn refused_fields(rt: HostRuntime) -> Result<(), Fail> {
     // Two bytes of the head of one zero sample are others.
     for (at, others, fault) in [
@@ -116,6 +138,13 @@ fn a_read_fails_in_the_head(rt: HostRuntime) -> Result<(), Fail> {
         let mut source = MemSource::new(rt.alloc(), &ONE_ZERO_SAMPLE, 7, &[number])?;
         assert_eq!(rt; open(&mut source), Err(WavFault::Read), "read {number}");
     }
+
+    // After the fault of the fourth read, of the 8 bytes of a chunk, no other byte is gone.
+    let mut source = MemSource::new(rt.alloc(), &ONE_ZERO_SAMPLE, 7, &[3])?;
+    assert_eq!(rt; open(&mut source), Err(WavFault::Read));
+    let mut rest = [9; 8];
+    assert_eq!(rt; source.read(&mut rest), Ok(7));
+    assert_eq!(rt; rest, [0, 1, 0, 1, 0, 0x44, 0xAC, 9]);
     let mut source = MemSource::new(rt.alloc(), &ONE_ZERO_SAMPLE, 7, &[9])?;
     assert_eq!(rt;
         open(&mut source),
@@ -128,7 +157,8 @@ fn a_read_fails_in_the_head(rt: HostRuntime) -> Result<(), Fail> {
 
 #[test]
 fn samples_in_order(rt: HostRuntime) -> Result<(), Fail> {
-    // Two samples of stereo and a rest of three bytes, of which the head declares two; then a byte of another chunk.
+    // Two samples of stereo and a rest of three bytes, of which the head declares two; then a byte
+    // of another chunk.
     let bytes = [1, 0, 0xFF, 0xFF, 0, 0x80, 0xFF, 0x7F, 5, 5, 5];
     let mut source = MemSource::new(rt.alloc(), &bytes, 3, &[])?;
     let mut samples = Samples::new(&head(Channels::Stereo, SampleRate::Hz44100, 10));
@@ -173,5 +203,10 @@ fn samples_channel_by_channel(rt: HostRuntime) -> Result<(), Fail> {
     let head = head(Channels::Mono, SampleRate::Hz44100, 9);
     let count = read_all(rt.alloc(), &head, &mut source).map(|pcm| pcm.left.len());
     assert_eq!(rt; count, Err(PcmFault::Read));
+
+    // After the fault of the third read nothing more was read.
+    let mut rest = [1; 4];
+    assert_eq!(rt; source.read(&mut rest), Ok(3));
+    assert_eq!(rt; rest, [0xFF, 0x7F, 5, 1]);
     Ok(())
 }
