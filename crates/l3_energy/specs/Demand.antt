@@ -5,7 +5,8 @@ use Rattle.l3_base.specs.Choosing.{least_passing}
 use Rattle.l3_tables.specs.Bands.{edge_at, band_width}
 use Rattle.l3_tables.specs.Lists.{tabulate}
 
--- what a line counts for: its absolute value in units of 2^-16 of full scale, rounded down and then squared
+-- what a line counts for: its absolute value in units of 2^-16 of full scale, rounded down and then
+-- squared
 abbrev pub energy_of_line : ℤ → ℕ
 energy_of_line x = (unsigned_abs x / 256) ^ 2
 
@@ -31,7 +32,8 @@ pub record HasDigits (n digits : ℕ) : Type 0 where
   pub highest : 0 < n → 2 ^ (digits - 1) ≤ n
   pub none : n ≡ 0 → digits ≡ 0
 
--- what a band demands, in eighths of a bit: for each of its lines as many as their mean energy, rounded down, has binary digits
+-- what a band demands, in eighths of a bit: for each of its lines as many as their mean energy,
+-- rounded down, has binary digits
 unfoldable pub eighths_of : ℕ → List ℤ → ℕ → ℕ
 eighths_of rate lines band = band_width rate band * binary_digits (energy_of rate lines band / band_width rate band)
 

@@ -1,7 +1,9 @@
 //! The bit demand: 576 lines -> energies of bands, and how many bits the spectrum asks for.
 //!
-//! The spectrum of one channel of one granule -> the energies of its 22 bands, and its demand in bits. Before: the transform; after: the reservoir's budget.
-//! There is no psychoacoustic model: to demand bits by the energies of bands is this project's own rule.
+//! The spectrum of one channel of one granule -> the energies of its 22 bands, and its demand in
+//! bits.
+//! Before: the transform; after: the reservoir's budget. There is no psychoacoustic model: to demand
+//! bits by the energies of bands is this project's own rule.
 #![tactic(auto)]
 
 mod band;

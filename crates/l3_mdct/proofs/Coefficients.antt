@@ -1,4 +1,5 @@
--- The printed coefficients are the cosines that they stand for, and these are the same, or the same with the other sign, from both ends.
+-- The printed coefficients are the cosines that they stand for, and these are the same, or the same
+-- with the other sign, from both ends.
 use Rattle.std.proofs.Common.{◌≡◌, ℕ, ◌+◌, ◌-◌, ◌*◌, ◌/◌, ◌%◌, ◌<◌, ◌≤◌, Bool, true, [], get_or, ℤ, pos, ◌-ℤ◌, neg_ℤ, arith, refl, to_z, of_z, w32}
 use Rattle.std.specs.Prelude.{unsigned_abs}
 use Rattle.l3_tables.specs.Cosines.{cosine72}

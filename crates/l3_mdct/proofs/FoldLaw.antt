@@ -9,16 +9,16 @@ use Rattle.l3_tables.specs.Sums.{sum_below, floor_div}
 use Rattle.l3_tables.proofs.Entries.{within_same}
 use Rattle.l3_tables.proofs.SumLemmas.{sum_below-same, sum_below-split, sum_below-add, add_times, times_add, abs_add}
 use Rattle.l3_mdct.specs.Spectrum.{line_cosine, line_from}
-use Rattle.l3_mdct.specs.Fold.{folded, folded_cosine, folded_sum}
+use Rattle.l3_mdct.specs.Fold.{folded_slot, folded_cosine, folded_slots_sum}
 use Rattle.l3_mdct.proofs.Bounds.{abs_sub}
 use Rattle.l3_mdct.proofs.Coefficients.{first_half, second_half}
 
-pub folded-low : (z : ℕ → ℤ) (k : ℕ) → k < 9 → folded z k ≡ z k -ℤ z (17 - k)
-unfolding folded
+pub folded-low : (z : ℕ → ℤ) (k : ℕ) → k < 9 → folded_slot z k ≡ z k -ℤ z (17 - k)
+unfolding folded_slot
 folded-low z k lt = grind (arith, nat_tests)
 
-pub folded-high : (z : ℕ → ℤ) (k : ℕ) → 9 ≤ k → folded z k ≡ z (9 + k) +ℤ z (44 - k)
-unfolding folded
+pub folded-high : (z : ℕ → ℤ) (k : ℕ) → 9 ≤ k → folded_slot z k ≡ z (9 + k) +ℤ z (44 - k)
+unfolding folded_slot
 folded-high z k le = grind (arith, nat_tests)
 
 folded_cosine-low : (m k : ℕ) → k < 9 → folded_cosine m k ≡ line_cosine m k
@@ -60,41 +60,41 @@ term z m k = z k *ℤ line_cosine m k
 abbrev folded_term : (ℕ → ℤ) → ℕ → ℕ → ℤ
 folded_term f m k = f k *ℤ folded_cosine m k
 
-low_term : (z : ℕ → ℤ) (m k : ℕ) → m < 18 → k < 9 → folded_term (folded z) m k ≡ term z m k +ℤ term z m (17 - k)
+low_term : (z : ℕ → ℤ) (m k : ℕ) → m < 18 → k < 9 → folded_term (folded_slot z) m k ≡ term z m k +ℤ term z m (17 - k)
 low_term z m k line lt =
     ap (λ x. x *ℤ folded_cosine m k) (folded-low z k lt)
     ∙ (ap (λ x. (z k -ℤ z (17 - k)) *ℤ x) (folded_cosine-low m k lt)
     ∙ difference_times (z k) (z (17 - k)) (line_cosine m k) (line_cosine m (17 - k)) (first_half m k line (omega arith)))
 
-high_term : (z : ℕ → ℤ) (m k : ℕ) → m < 18 → k < 9 → folded_term (folded z) m (9 + k) ≡ term z m (18 + k) +ℤ term z m (35 - k)
+high_term : (z : ℕ → ℤ) (m k : ℕ) → m < 18 → k < 9 → folded_term (folded_slot z) m (9 + k) ≡ term z m (18 + k) +ℤ term z m (35 - k)
 high_term z m k line lt =
     let first : 9 + (9 + k) ≡ 18 + k = omega arith in
     let second : 44 - (9 + k) ≡ 35 - k = omega arith in
-    let value : folded z (9 + k) ≡ z (18 + k) +ℤ z (35 - k) = rw (first, second) at (folded-high z (9 + k) (omega arith)) in
+    let value : folded_slot z (9 + k) ≡ z (18 + k) +ℤ z (35 - k) = rw (first, second) at (folded-high z (9 + k) (omega arith)) in
     ap (λ x. x *ℤ folded_cosine m (9 + k)) value
     ∙ (ap (λ x. (z (18 + k) +ℤ z (35 - k)) *ℤ x) (folded_cosine-high m k)
     ∙ (add_times (z (18 + k)) (z (35 - k)) (line_cosine m (18 + k))
     ∙ ap (λ x. term z m (18 + k) +ℤ z (35 - k) *ℤ x) (sym (second_half m k line (omega arith)))))
 
-pub fold_is : (z : ℕ → ℤ) (m : ℕ) → m < 18 → folded_sum (folded z) m ≡ sum_below 36 (λ k. z k *ℤ line_cosine m k)
-unfolding folded_sum
+pub fold_is : (z : ℕ → ℤ) (m : ℕ) → m < 18 → folded_slots_sum (folded_slot z) m ≡ sum_below 36 (λ k. z k *ℤ line_cosine m k)
+unfolding folded_slots_sum
 fold_is z m line =
-    let halves : sum_below 18 (folded_term (folded z) m) ≡ sum_below 9 (folded_term (folded z) m) +ℤ sum_below 9 (λ j. folded_term (folded z) m (9 + j)) = sum_below-split 9 9 (folded_term (folded z) m) in
-    let low : sum_below 9 (folded_term (folded z) m) ≡ sum_below 9 (term z m) +ℤ sum_below 9 (λ j. term z m (17 - j)) =
+    let halves : sum_below 18 (folded_term (folded_slot z) m) ≡ sum_below 9 (folded_term (folded_slot z) m) +ℤ sum_below 9 (λ j. folded_term (folded_slot z) m (9 + j)) = sum_below-split 9 9 (folded_term (folded_slot z) m) in
+    let low : sum_below 9 (folded_term (folded_slot z) m) ≡ sum_below 9 (term z m) +ℤ sum_below 9 (λ j. term z m (17 - j)) =
     sum_below-same 9 _ _ (λ j lt. low_term z m j line lt) ∙ sum_below-add 9 (term z m) (λ j. term z m (17 - j)) in
-    let high : sum_below 9 (λ j. folded_term (folded z) m (9 + j)) ≡ sum_below 9 (λ j. term z m (18 + j)) +ℤ sum_below 9 (λ j. term z m (35 - j)) =
+    let high : sum_below 9 (λ j. folded_term (folded_slot z) m (9 + j)) ≡ sum_below 9 (λ j. term z m (18 + j)) +ℤ sum_below 9 (λ j. term z m (35 - j)) =
     sum_below-same 9 _ _ (λ j lt. high_term z m j line lt) ∙ sum_below-add 9 (λ j. term z m (18 + j)) (λ j. term z m (35 - j)) in
-    halves ∙ (ap (λ x. x +ℤ sum_below 9 (λ j. folded_term (folded z) m (9 + j))) low
+    halves ∙ (ap (λ x. x +ℤ sum_below 9 (λ j. folded_term (folded_slot z) m (9 + j))) low
     ∙ (ap (λ x. sum_below 9 (term z m) +ℤ sum_below 9 (λ j. term z m (17 - j)) +ℤ x) high ∙ sym (four_parts (term z m))))
 
 -- a line out of slots that are folded
-pub line_of_fold : (f z : ℕ → ℤ) (m : ℕ) → m < 18 → ((k : ℕ) → k < 18 → f k ≡ folded z k) → floor_div (pos 2 *ℤ folded_sum f m +ℤ pos 294912) 589824 ≡ line_from z m
-unfolding folded_sum line_from
+pub line_of_fold : (f z : ℕ → ℤ) (m : ℕ) → m < 18 → ((k : ℕ) → k < 18 → f k ≡ folded_slot z k) → floor_div (pos 2 *ℤ folded_slots_sum f m +ℤ pos 294912) 589824 ≡ line_from z m
+unfolding folded_slots_sum line_from
 line_of_fold f z m line h =
     let same : sum_below 18 (folded_term f m) ≡ sum_below 36 (term z m) = sum_below-same 18 _ _ (λ k lt. ap (λ x. x *ℤ folded_cosine m k) (h k lt)) ∙ fold_is z m line in
     ap (λ s. floor_div (pos 2 *ℤ s +ℤ pos 294912) 589824) same
 
-pub folded_small : (z : ℕ → ℤ) (k bound : ℕ) → k < 18 → ((k : ℕ) → k < 36 → unsigned_abs (z k) ≤ bound) → unsigned_abs (folded z k) ≤ 2 * bound
+pub folded_small : (z : ℕ → ℤ) (k bound : ℕ) → k < 18 → ((k : ℕ) → k < 36 → unsigned_abs (z k) ≤ bound) → unsigned_abs (folded_slot z k) ≤ 2 * bound
 folded_small z k bound lt small =
     elim (cases_lt k 9) [
       | inl low ↦ within_same (2 * bound) _ _ (folded-low z k low) (omega (arith, abs_sub (z k) (z (17 - k)), small k (omega arith), small (17 - k) (omega arith)))

@@ -23,7 +23,8 @@ line_from z m = floor_div (pos 2 *ℤ sum_below 36 (λ k. z k *ℤ line_cosine m
 unfoldable pub line_before : List (List ℤ) → ℕ → ℤ
 line_before slots n = line_from (windowed (slot_in slots (n / 18))) (n % 18)
 
--- butterfly k of 8 about a border between subbands: its lower and its upper end become these, to the nearest
+-- butterfly k of 8 about a border between subbands: its lower and its upper end become these, to
+-- the nearest
 unfoldable pub lower_end : ℕ → ℤ → ℤ → ℤ
 lower_end k a b = floor_div (a *ℤ cs_at k +ℤ b *ℤ ca_at k +ℤ pos (2 ^ 14)) (2 ^ 15)
 
@@ -56,7 +57,8 @@ spectrum_of window = lines_of (slots_of window)
 abbrev pub spectrum_of_granule : List ℤ → ℕ → List ℤ
 spectrum_of_granule p g = spectrum_of (window_of p g)
 
--- the slots of granule g are those of the samples from slot 18 (g - 1) on, with the other sign where slot and subband are odd
+-- the slots of granule g are those of the samples from slot 18 (g - 1) on, with the other sign
+-- where slot and subband are odd
 abbrev pub SlotsOfGranule : Type 0
 SlotsOfGranule = (p : List ℤ) (g i k : ℕ) → i < 32 → k < 36 → slot_in (slots_of (window_of p g)) i k ≡ turned i k (slot_of p (pos (18 * g + k) -ℤ pos 18) i)
 

@@ -3,7 +3,8 @@ ghost use Rattle.l3_tables.specs.Sums.{IsWithin};
 ghost use Rattle.l3_tables.specs.Cosines.{cosine72};
 ghost use Rattle.l3_mdct.specs.Fold.{folded_cosine};
 
-// The window of a long block, times 2^15: slot k has the cosine of 35 - 2 k steps, 72 to the half circle.
+// The window of a long block, times 2^15: slot k has the cosine of 35 - 2 k steps, 72 to the half
+// circle.
 //
 // The sine window of ISO/IEC 11172-3, 2.4, from this project's table [`l3_tables::K72`].
 #[rattlefmt::skip]
@@ -16,8 +17,9 @@ static LONG_WINDOW: [i32; 36] = [
 
 // What each of the 18 folded slots counts for in each of the 18 lines of a subband, times 2^15.
 //
-// Row m is that of line m: of folded slots 0 to 8 the cosines of (2 k + 19)(2 m + 1) steps, and of 9 to 17 those of
-// (2 (k + 9) + 19)(2 m + 1) steps, 72 to the half circle. From this project's table [`l3_tables::K72`].
+// Row m is that of line m: of folded slots 0 to 8 the cosines of (2 k + 19)(2 m + 1) steps, and of
+// 9 to 17 those of (2 (k + 9) + 19)(2 m + 1) steps, 72 to the half circle. From this project's
+// table [`l3_tables::K72`].
 #[rattlefmt::skip]
 static FOLDED_COSINES: [[i32; 18]; 18] = [
     [

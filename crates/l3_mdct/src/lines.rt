@@ -3,7 +3,7 @@ ghost use Rattle.l3_base.specs.Slots.{slot_in};
 ghost use Rattle.l3_tables.specs.Lists.{entry};
 ghost use Rattle.l3_tables.specs.Sums.{floor_div, IsWithin};
 ghost use Rattle.l3_mdct.specs.Spectrum.{windowed, line_from, line_before};
-ghost use Rattle.l3_mdct.specs.Fold.{folded_sum};
+ghost use Rattle.l3_mdct.specs.Fold.{folded_slots_sum};
 
 use crate::cosines::{cosine, window};
 use crate::fold::fold36;
@@ -32,7 +32,7 @@ fn windowed_slots(slots: &Slots36, band: usize) -> [i32; 36]
 fn line_sum(f: &[i32; 18], m: usize) -> i64
     requires line { m < 18 }
     requires small { (k : ℕ) → k < 18 → IsWithin 89196032 (entry f.now k) }
-    ensures value { result ≡ folded_sum (entry f.now) m }
+    ensures value { result ≡ folded_slots_sum (entry f.now) m }
     ensures bound { IsWithin (18 * (89196032 * 2 ^ 15)) result }
 {
     let mut sum = 0i64;
@@ -46,7 +46,7 @@ fn line_sum(f: &[i32; 18], m: usize) -> i64
 #[inline(always)]
 fn line_sums(f: &[i32; 18], sums: &mut [i64; 18])
     requires { (k : ℕ) → k < 18 → IsWithin 89196032 (entry f.now k) }
-    ensures value { (m : ℕ) → m < 18 → entry sums.new m ≡ folded_sum (entry f.now) m }
+    ensures value { (m : ℕ) → m < 18 → entry sums.new m ≡ folded_slots_sum (entry f.now) m }
     ensures bound { (m : ℕ) → m < 18 → IsWithin (18 * (89196032 * 2 ^ 15)) (entry sums.new m) }
 {
     for m in 0..18 {

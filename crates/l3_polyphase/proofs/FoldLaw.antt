@@ -11,7 +11,7 @@ use Rattle.l3_tables.specs.Filterbank.{subband_sum}
 use Rattle.l3_tables.proofs.Circles.{extended64}
 use Rattle.l3_tables.proofs.Entries.{within_same}
 use Rattle.l3_tables.proofs.SumLemmas.{sum_below-split, sum_below-add, sum_below-same, times_add}
-use Rattle.l3_polyphase.specs.Fold.{folded, folded_sum}
+use Rattle.l3_polyphase.specs.Fold.{folded_column, folded_columns_sum}
 
 -- the first term and the others
 pub sum_below-first : (n : ℕ) (f : ℕ → ℤ) → sum_below (suc n) f ≡ f 0 +ℤ sum_below n (λ i. f (suc i))
@@ -131,66 +131,66 @@ term y i k = of_column (2 * i + 1) k *ℤ y k
 abbrev half_term : (ℕ → ℤ) → ℕ → ℕ → ℤ
 half_term u i j = of_folded (2 * i + 1) j *ℤ u j
 
-pub at_low : (y : ℕ → ℤ) (j : ℕ) → 1 ≤ j → j ≤ 16 → folded y j ≡ y (16 + j) +ℤ y (16 - j)
-unfolding folded
+pub at_low : (y : ℕ → ℤ) (j : ℕ) → 1 ≤ j → j ≤ 16 → folded_column y j ≡ y (16 + j) +ℤ y (16 - j)
+unfolding folded_column
 at_low y j a b = grind (arith, nat_tests)
 
-pub at_high : (y : ℕ → ℤ) (j : ℕ) → 17 ≤ j → folded y j ≡ y (16 + j) -ℤ y (80 - j)
-unfolding folded
+pub at_high : (y : ℕ → ℤ) (j : ℕ) → 17 ≤ j → folded_column y j ≡ y (16 + j) -ℤ y (80 - j)
+unfolding folded_column
 at_high y j a = grind (arith, nat_tests)
 
-pub at_first : (y : ℕ → ℤ) → folded y 0 ≡ y 16
-unfolding folded
+pub at_first : (y : ℕ → ℤ) → folded_column y 0 ≡ y 16
+unfolding folded_column
 at_first y = refl
 
-first_term : (y : ℕ → ℤ) (i : ℕ) → half_term (folded y) i 0 ≡ term y i 16
+first_term : (y : ℕ → ℤ) (i : ℕ) → half_term (folded_column y) i 0 ≡ term y i 16
 first_term y i = ap (λ z. of_folded (2 * i + 1) 0 *ℤ z) (at_first y)
 
-low_term : (y : ℕ → ℤ) (i j : ℕ) → j < 16 → half_term (folded y) i (suc j) ≡ term y i (16 + suc j) +ℤ term y i (15 - j)
+low_term : (y : ℕ → ℤ) (i j : ℕ) → j < 16 → half_term (folded_column y) i (suc j) ≡ term y i (16 + suc j) +ℤ term y i (15 - j)
 low_term y i j lt =
     let there : 16 - suc j ≡ 15 - j = omega arith in
-    let value : folded y (suc j) ≡ y (16 + suc j) +ℤ y (15 - j) = at_low y (suc j) (omega arith) (omega arith) ∙ ap (λ n. y (16 + suc j) +ℤ y n) there in
+    let value : folded_column y (suc j) ≡ y (16 + suc j) +ℤ y (15 - j) = at_low y (suc j) (omega arith) (omega arith) ∙ ap (λ n. y (16 + suc j) +ℤ y n) there in
     let left : of_column (2 * i + 1) (15 - j) ≡ of_folded (2 * i + 1) (suc j) = ap (of_column (2 * i + 1)) (sym there) ∙ left_is (2 * i + 1) (suc j) (omega arith) in
     ap (λ z. of_folded (2 * i + 1) (suc j) *ℤ z) value
     ∙ (times_add (of_folded (2 * i + 1) (suc j)) (y (16 + suc j)) (y (15 - j))
     ∙ (ap (λ z. z *ℤ y (16 + suc j) +ℤ of_folded (2 * i + 1) (suc j) *ℤ y (15 - j)) (sym (right_is (2 * i + 1) (suc j)))
     ∙ ap (λ z. of_column (2 * i + 1) (16 + suc j) *ℤ y (16 + suc j) +ℤ z *ℤ y (15 - j)) (sym left)))
 
-high_term : (y : ℕ → ℤ) (i j : ℕ) → j < 15 → half_term (folded y) i (17 + j) ≡ term y i (33 + j) +ℤ term y i (63 - j)
+high_term : (y : ℕ → ℤ) (i j : ℕ) → j < 15 → half_term (folded_column y) i (17 + j) ≡ term y i (33 + j) +ℤ term y i (63 - j)
 high_term y i j lt =
     let above : 16 + (17 + j) ≡ 33 + j = omega arith in
     let there : 80 - (17 + j) ≡ 63 - j = omega arith in
-    let value : folded y (17 + j) ≡ y (33 + j) -ℤ y (63 - j) = at_high y (17 + j) (omega arith) ∙ (ap (λ n. y n -ℤ y (80 - (17 + j))) above ∙ ap (λ n. y (33 + j) -ℤ y n) there) in
+    let value : folded_column y (17 + j) ≡ y (33 + j) -ℤ y (63 - j) = at_high y (17 + j) (omega arith) ∙ (ap (λ n. y n -ℤ y (80 - (17 + j))) above ∙ ap (λ n. y (33 + j) -ℤ y n) there) in
     let right : of_column (2 * i + 1) (33 + j) ≡ of_folded (2 * i + 1) (17 + j) = ap (of_column (2 * i + 1)) (sym above) ∙ right_is (2 * i + 1) (17 + j) in
     let mirror : of_column (2 * i + 1) (63 - j) ≡ neg_ℤ (of_folded (2 * i + 1) (17 + j)) = ap (of_column (2 * i + 1)) (sym there) ∙ mirror_is i (17 + j) (omega arith) in
     let first : of_folded (2 * i + 1) (17 + j) *ℤ y (33 + j) ≡ term y i (33 + j) = ap (λ z. z *ℤ y (33 + j)) (sym right) in
     let second : neg_ℤ (of_folded (2 * i + 1) (17 + j)) *ℤ y (63 - j) ≡ term y i (63 - j) = ap (λ z. z *ℤ y (63 - j)) (sym mirror) in
-    let sum : half_term (folded y) i (17 + j) ≡ of_folded (2 * i + 1) (17 + j) *ℤ y (33 + j) -ℤ of_folded (2 * i + 1) (17 + j) *ℤ y (63 - j) =
+    let sum : half_term (folded_column y) i (17 + j) ≡ of_folded (2 * i + 1) (17 + j) *ℤ y (33 + j) -ℤ of_folded (2 * i + 1) (17 + j) *ℤ y (63 - j) =
     ap (λ z. of_folded (2 * i + 1) (17 + j) *ℤ z) value ∙ times_sub (of_folded (2 * i + 1) (17 + j)) (y (33 + j)) (y (63 - j)) in
     regrouped _ _ _ _ _ sum first (sym (neg_times (of_folded (2 * i + 1) (17 + j)) (y (63 - j))) ∙ second)
 
-pub fold_is : (y : ℕ → ℤ) (i : ℕ) → folded_sum (folded y) i ≡ subband_sum y i
-unfolding folded_sum subband_sum
+pub fold_is : (y : ℕ → ℤ) (i : ℕ) → folded_columns_sum (folded_column y) i ≡ subband_sum y i
+unfolding folded_columns_sum subband_sum
 fold_is y i =
     let none : term y i 48 ≡ pos 0 = ap (λ z. z *ℤ y 48) (none_is i) ∙ zero-*ℤ (y 48) in
-    let start : half_term (folded y) i 0 ≡ term y i 16 = first_term y i in
-    let low : sum_below 16 (λ j. half_term (folded y) i (suc j)) ≡ sum_below 16 (λ j. term y i (16 + suc j) +ℤ term y i (15 - j)) =
-    sum_below-same 16 (λ j. half_term (folded y) i (suc j)) (λ j. term y i (16 + suc j) +ℤ term y i (15 - j)) (λ j lt. low_term y i j lt) in
-    let high : sum_below 15 (λ j. half_term (folded y) i (17 + j)) ≡ sum_below 15 (λ j. term y i (33 + j) +ℤ term y i (63 - j)) =
-    sum_below-same 15 (λ j. half_term (folded y) i (17 + j)) (λ j. term y i (33 + j) +ℤ term y i (63 - j)) (λ j lt. high_term y i j lt) in
+    let start : half_term (folded_column y) i 0 ≡ term y i 16 = first_term y i in
+    let low : sum_below 16 (λ j. half_term (folded_column y) i (suc j)) ≡ sum_below 16 (λ j. term y i (16 + suc j) +ℤ term y i (15 - j)) =
+    sum_below-same 16 (λ j. half_term (folded_column y) i (suc j)) (λ j. term y i (16 + suc j) +ℤ term y i (15 - j)) (λ j lt. low_term y i j lt) in
+    let high : sum_below 15 (λ j. half_term (folded_column y) i (17 + j)) ≡ sum_below 15 (λ j. term y i (33 + j) +ℤ term y i (63 - j)) =
+    sum_below-same 15 (λ j. half_term (folded_column y) i (17 + j)) (λ j. term y i (33 + j) +ℤ term y i (63 - j)) (λ j lt. high_term y i j lt) in
     joined _ _ _ (sum_below 16 (λ j. term y i (16 + suc j))) (sum_below 16 (λ j. term y i (15 - j))) (sum_below 15 (λ j. term y i (33 + j))) _ (sum_below 15 (λ j. term y i (63 - j))) _ _ _
-    (parts (term y i)) (half_parts (half_term (folded y) i)) none start
+    (parts (term y i)) (half_parts (half_term (folded_column y) i)) none start
     (low ∙ sum_below-add 16 (λ j. term y i (16 + suc j)) (λ j. term y i (15 - j)))
     (high ∙ sum_below-add 15 (λ j. term y i (33 + j)) (λ j. term y i (63 - j)))
 
-pub folded_sum-same : (f g : ℕ → ℤ) (i : ℕ) → ((j : ℕ) → j < 32 → f j ≡ g j) → folded_sum f i ≡ folded_sum g i
-unfolding folded_sum
-folded_sum-same f g i h = sum_below-same 32 _ _ (λ j lt. ap (λ z. cosine64 (pos (2 * i + 1) *ℤ pos j) *ℤ z) (h j lt))
+pub folded_columns_sum-same : (f g : ℕ → ℤ) (i : ℕ) → ((j : ℕ) → j < 32 → f j ≡ g j) → folded_columns_sum f i ≡ folded_columns_sum g i
+unfolding folded_columns_sum
+folded_columns_sum-same f g i h = sum_below-same 32 _ _ (λ j lt. ap (λ z. cosine64 (pos (2 * i + 1) *ℤ pos j) *ℤ z) (h j lt))
 
 abs_both : (x y : ℤ) → (unsigned_abs (x +ℤ y) ≤ unsigned_abs x + unsigned_abs y) × (unsigned_abs (x -ℤ y) ≤ unsigned_abs x + unsigned_abs y)
 abs_both x y = (grind (arith, ints), grind (arith, ints))
 
-pub folded_small : (y : ℕ → ℤ) (j bound : ℕ) → j < 32 → ((k : ℕ) → k < 64 → unsigned_abs (y k) ≤ bound) → unsigned_abs (folded y j) ≤ 2 * bound
+pub folded_small : (y : ℕ → ℤ) (j bound : ℕ) → j < 32 → ((k : ℕ) → k < 64 → unsigned_abs (y k) ≤ bound) → unsigned_abs (folded_column y j) ≤ 2 * bound
 folded_small y zero bound lt small = within_same (2 * bound) _ _ (at_first y) (omega (arith, small 16 (lit< tt)))
 folded_small y (suc j) bound lt small =
     elim (cases_lt j 16) [

@@ -1,4 +1,5 @@
--- A subband and the one opposite to it have the same products, with the other sign at every other column.
+-- A subband and the one opposite to it have the same products, with the other sign at every other
+-- column.
 use Rattle.std.proofs.Common.{◌≡◌, ℕ, zero, suc, ◌+◌, ◌*◌, ◌<◌, ℤ, pos, ◌+ℤ◌, ◌-ℤ◌, ◌*ℤ◌, neg_ℤ, ◌-◌, ◌≤◌, ◌^◌, mul-add, add-mul, mul_assoc, mul-suc, arith, refl, sym, ap, ◌∙◌}
 use Rattle.std.proofs.lemmas.Int.{ints}
 use Rattle.std.specs.Prelude.{unsigned_abs}
@@ -6,7 +7,7 @@ use Rattle.l3_tables.specs.Sums.{sum_below}
 use Rattle.l3_tables.specs.Cosines.{cosine64}
 use Rattle.l3_tables.proofs.Circles.{extended64}
 use Rattle.l3_tables.proofs.SumLemmas.{sum_below-same}
-use Rattle.l3_polyphase.specs.Fold.{folded_sum, part_sum}
+use Rattle.l3_polyphase.specs.Fold.{folded_columns_sum, part_sum}
 use Rattle.l3_polyphase.proofs.FoldLaw.{periods, shifted, neg_times}
 
 -- the terms at even and at odd places
@@ -86,9 +87,9 @@ pub part_sum-opposite : (s n : ℕ) (u : ℕ → ℤ) (i k : ℕ) → (2 * i + 1
 part_sum-opposite s n u i k e = omega (arith, ints, part_sum-halves s n u k, even_same s n u i k e, odd_turned s n u i k e)
 
 -- all 32 columns
-pub folded_sum-part : (u : ℕ → ℤ) (i : ℕ) → folded_sum u i ≡ part_sum 0 1 32 u i
-unfolding folded_sum part_sum
-folded_sum-part u i = sum_below-same 32 (λ j. at_column u i j) (λ j. at_column u i (0 + 1 * j)) (λ j lt. ap (at_column u i) (omega arith))
+pub folded_columns_sum-part : (u : ℕ → ℤ) (i : ℕ) → folded_columns_sum u i ≡ part_sum 0 1 32 u i
+unfolding folded_columns_sum part_sum
+folded_columns_sum-part u i = sum_below-same 32 (λ j. at_column u i j) (λ j. at_column u i (0 + 1 * j)) (λ j lt. ap (at_column u i) (omega arith))
 
 -- the even columns of subbands i and 15 - i, in halves
 pub even_low : (u : ℕ → ℤ) (i : ℕ) → part_sum 0 2 16 u i ≡ part_sum 0 4 8 u i +ℤ part_sum 2 4 8 u i
@@ -98,11 +99,11 @@ pub even_high : (u : ℕ → ℤ) (i : ℕ) → i < 8 → part_sum 0 2 16 u (15 
 even_high u i lt = part_sum-opposite 2 8 u i (15 - i) (omega arith)
 
 -- all columns of subbands i and 31 - i, in halves
-pub whole_low : (u : ℕ → ℤ) (i : ℕ) → folded_sum u i ≡ part_sum 0 2 16 u i +ℤ part_sum 1 2 16 u i
-whole_low u i = folded_sum-part u i ∙ part_sum-halves 1 16 u i
+pub whole_low : (u : ℕ → ℤ) (i : ℕ) → folded_columns_sum u i ≡ part_sum 0 2 16 u i +ℤ part_sum 1 2 16 u i
+whole_low u i = folded_columns_sum-part u i ∙ part_sum-halves 1 16 u i
 
-pub whole_high : (u : ℕ → ℤ) (i : ℕ) → i < 16 → folded_sum u (31 - i) ≡ part_sum 0 2 16 u i -ℤ part_sum 1 2 16 u i
-whole_high u i lt = folded_sum-part u (31 - i) ∙ part_sum-opposite 1 16 u i (31 - i) (omega arith)
+pub whole_high : (u : ℕ → ℤ) (i : ℕ) → i < 16 → folded_columns_sum u (31 - i) ≡ part_sum 0 2 16 u i -ℤ part_sum 1 2 16 u i
+whole_high u i lt = folded_columns_sum-part u (31 - i) ∙ part_sum-opposite 1 16 u i (31 - i) (omega arith)
 
 -- the even columns of subband i, and how great they may be
 abbrev pub IsEvenSum : (ℕ → ℤ) → ℕ → ℤ → Type 0

@@ -1,4 +1,5 @@
-//! Coefficients in the order in which the kernel reads them, written out from the tables of l3_tables.
+//! Coefficients in the order in which the kernel reads them, written out from the tables of
+//! l3_tables.
 
 ghost use Rattle.std.specs.Prelude.{◌≡◌, ◌+◌, ◌-◌, ◌*◌, ◌<◌, pos, ◌*ℤ◌};
 ghost use Rattle.l3_tables.specs.Cosines.{cosine64};
@@ -7,7 +8,8 @@ ghost use Rattle.l3_tables.specs.Window.{window_at};
 
 // The window's 512 entries for samples in order of time: that of the newest sample stands last.
 //
-// They have 64 bits each, so that two of them are loaded at once as the factors of two 64-bit products.
+// They have 64 bits each, so that two of them are loaded at once as the factors of two 64-bit
+// products.
 #[rattlefmt::skip]
 static WINDOW_IN_TIME: [i64; 512] = [
     1, 1, 1, 1, 1, 1, 2, 2,

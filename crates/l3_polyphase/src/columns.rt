@@ -23,7 +23,8 @@ fn column(samples: &[i16], at: usize) -> i64
     sum
 }
 
-// The 64 columns of 512 samples in order of time, the last column first: so samples and window are both read forward.
+// The 64 columns of 512 samples in order of time, the last column first: so samples and window are
+// both read forward.
 pub(crate) fn columns(samples: &[i16]) -> [i64; 64]
     requires { length samples.now ≡ 512 }
     ensures value { (k : ℕ) → k < 64 → column_in result k ≡ column_sum (before_newest samples.now) k }

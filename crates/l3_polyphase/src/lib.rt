@@ -1,7 +1,9 @@
 //! The analysis filterbank: samples -> 32 subbands.
 //!
-//! 1632 samples of one channel -> 36 slots of 32 subbands. Before: the samples of a granule and of the one before; after: the transform of each subband's slots to lines.
-//! It is the analysis filterbank of ISO/IEC 11172-3 over this project's own integer tables and with its own rounding.
+//! 1632 samples of one channel -> 36 slots of 32 subbands.
+//! Before: the samples of a granule and of the one before; after: the transform of each subband's
+//! slots to lines. It is the analysis filterbank of ISO/IEC 11172-3 over this project's own integer
+//! tables and with its own rounding.
 #![tactic(auto)]
 
 mod coefficients;

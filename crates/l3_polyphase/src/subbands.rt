@@ -2,7 +2,7 @@ ghost use Rattle.std.specs.Prelude.{◌≡◌, ◌+◌, ◌*◌, ◌<◌, ◌≤
 ghost use Rattle.l3_tables.specs.Lists.{entry, tabulate};
 ghost use Rattle.l3_tables.specs.Sums.{floor_div, IsWithin};
 ghost use Rattle.l3_tables.specs.Filterbank.{subband_sum, slot_sum};
-ghost use Rattle.l3_polyphase.specs.Fold.{folded_sum, part_sum};
+ghost use Rattle.l3_polyphase.specs.Fold.{folded_columns_sum, part_sum};
 ghost use Rattle.l3_polyphase.specs.Samples.{before_newest, column_in};
 
 use crate::coefficients::cosine;
@@ -10,7 +10,8 @@ use crate::columns::columns;
 use crate::fold::fold64;
 use l3_tables::add_product;
 
-// Every `step`-th folded column from `start`, `count` of them, each times its cosine for subband `i`, added up.
+// Every `step`-th folded column from `start`, `count` of them, each times its cosine for subband
+// `i`, added up.
 #[inline(always)]
 fn part(columns: &[i64; 32], i: usize, start: usize, step: usize, count: usize) -> i64
     requires subband { i < 16 }
@@ -30,7 +31,8 @@ fn part(columns: &[i64; 32], i: usize, start: usize, step: usize, count: usize) 
 
 // The sums of the 16 even folded columns, for the lower 16 subbands.
 //
-// They fold once more: subband 15 - i has the products of subband i, every other one with the other sign.
+// They fold once more: subband 15 - i has the products of subband i, every other one with the other
+// sign.
 fn even_sums(columns: &[i64; 32]) -> [i64; 16]
     requires { (j : ℕ) → j < 32 → IsWithin (2 ^ 36) (entry columns.now j) }
     ensures value { (i : ℕ) → i < 16 → entry result i ≡ part_sum 0 2 16 (entry columns.now) i }
@@ -55,11 +57,12 @@ fn rounded(sum: i64) -> i32
     ((sum + (1 << 26)) >> 27) as i32
 }
 
-// The slots of the 32 subbands of 32 folded columns: subband 31 - i has the products of subband i, the odd ones with the other sign.
+// The slots of the 32 subbands of 32 folded columns: subband 31 - i has the products of subband i,
+// the odd ones with the other sign.
 fn slots_of_folded(columns: &[i64; 32], out: &mut [i32; 32])
     requires { (j : ℕ) → j < 32 → IsWithin (2 ^ 36) (entry columns.now j) }
     ensures long { length out.new ≡ 32 }
-    ensures value { (i : ℕ) → i < 32 → entry out.new i ≡ floor_div (folded_sum (entry columns.now) i +ℤ pos (2 ^ 26)) (2 ^ 27) }
+    ensures value { (i : ℕ) → i < 32 → entry out.new i ≡ floor_div (folded_columns_sum (entry columns.now) i +ℤ pos (2 ^ 26)) (2 ^ 27) }
 {
     let even = even_sums(columns);
     for i in 0..16 {

@@ -1,7 +1,8 @@
 use crate::{slot, slots36};
 use l3_base::Slots36;
 
-// Samples 16384, 0, 0 and so on: the first one is 31 before the newest of slot 0, and 287 before that of slot 8.
+// Samples 16384, 0, 0 and so on: the first one is 31 before the newest of slot 0, and 287 before
+// that of slot 8.
 #[test]
 fn slots_of_an_impulse(rt: HostRuntime) {
     let mut out = [0i32; 32];
@@ -14,7 +15,8 @@ fn slots_of_an_impulse(rt: HostRuntime) {
     slot(&later, &mut out);
     assert_eq!(rt; out[0], 116582);
 
-    // Granule 1 begins at sample 576, its window 480 + 576 samples before that, and its slots at slot 0.
+    // Granule 1 begins at sample 576, its window 480 + 576 samples before that, and its slots at
+    // slot 0.
     let mut window = [0i16; 1632];
     window[480] = 16384;
     let mut slots = Slots36::zero();

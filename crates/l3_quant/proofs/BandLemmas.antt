@@ -1,19 +1,18 @@
 -- The quantised values of a spectrum's lines, each at the gain of its band.
-use Rattle.std.proofs.Common.{◌≡◌, ◌≢◌, ℕ, zero, suc, ◌+◌, ◌-◌, ◌*◌, ◌<◌, ◌≤◌, Bool, true, false, List, [], ◌∷◌, length, get_or, map, take, drop, replicate, min, ltb, arith, refl, sym, ap, ◌∙◌, inl, inr, subst, ℤ, pos, negsuc}
+use Rattle.std.proofs.Common.{◌≡◌, ℕ, zero, suc, ◌+◌, ◌-◌, ◌*◌, ◌<◌, ◌≤◌, true, false, List, [], ◌∷◌, length, get_or, map, take, drop, ltb, arith, refl, sym, ap, ◌∙◌, inl, inr, subst, ℤ, pos}
 use Rattle.std.specs.Prelude.{All, ◌-ℤ◌, slice_range, unsigned_abs}
 use Rattle.std.specs.List.{enumerate_from}
-use Rattle.std.proofs.lemmas.Bool.{cases_Bool, cases_lt, lt-ltb, ltb-true, ltb-false, le-ltb, true≢false}
-use Rattle.std.proofs.lemmas.List.{get_or-replicate, get_or_past, length-take, length-map}
+use Rattle.std.proofs.lemmas.Bool.{cases_lt, lt-ltb, ltb-true, ltb-false, le-ltb, true≢false}
+use Rattle.std.proofs.lemmas.List.{get_or-replicate, get_or_past, length-take}
 use Rattle.std.proofs.lemmas.List.Elements.{All-from_get_or}
-use Rattle.std.proofs.lemmas.List.FromFn.{length-enumerate_from}
 use Rattle.std.proofs.lemmas.Int.{ints}
 use Rattle.l3_base.specs.Amp.{IsAmp, no_amp}
 use Rattle.l3_base.specs.Choosing.{IsLeastPassing}
 use Rattle.l3_base.specs.Spectrum.{IsLine}
 use Rattle.l3_base.proofs.ChoosingLemmas.{least_passing-is, least_passing-least}
 use Rattle.l3_tables.specs.Bands.{edge_at, edges_at}
-use Rattle.l3_tables.proofs.Edges.{edge_first, edge_last, edge_order, edge_rises}
-use Rattle.l3_quant.specs.Quantiser.{magnitude, quantised, quantised_lines, steps_of, IsCodable, is_codable}
+use Rattle.l3_tables.proofs.Edges.{edge_first, edge_last, edge_order}
+use Rattle.l3_quant.specs.Quantiser.{magnitude, quantised, quantised_lines, steps_of, is_codable}
 use Rattle.l3_quant.specs.Amplified.{band_gain, band_of, quantised_bands}
 use Rattle.l3_quant.specs.Gains.{CodableAbove, FirstGainExists, OneGainWithoutAmp, ZerosAtTheTop, first_gain_of}
 use Rattle.l3_quant.proofs.Codable.{codable_is_tested, magnitude_at-steps, magnitude_at-top, quantised-none, size_of_quantised, steps_of-band}

@@ -1,11 +1,11 @@
 -- How the quantised value falls with the gain, and when values can be coded.
-use Rattle.std.proofs.Common.{◌≡◌, ℕ, zero, suc, ◌+◌, ◌-◌, ◌*◌, ◌^◌, ◌<◌, ◌≤◌, ◌⊎◌, ◌&&◌, Bool, true, false, List, [], ◌∷◌, length, get_or, map, min, leb, arith, refl, sym, ap, ◌∙◌, inl, inr, subst, ℤ, pos, negsuc}
+use Rattle.std.proofs.Common.{◌≡◌, ℕ, zero, suc, ◌+◌, ◌-◌, ◌*◌, ◌^◌, ◌<◌, ◌≤◌, ◌&&◌, true, false, List, [], ◌∷◌, length, get_or, min, leb, arith, refl, ap, ◌∙◌, inl, inr, subst, ℤ, pos, negsuc}
 use Rattle.std.specs.Prelude.{All, Any, ◌↔◌, unsigned_abs}
 use Rattle.std.specs.List.{list_all}
 use Rattle.std.proofs.lemmas.Bool.{cases_lt, leb-true, le-leb, true≢false}
 use Rattle.std.proofs.lemmas.Bool.Decides.{Decides-by_and}
 use Rattle.std.proofs.lemmas.Int.{ints}
-use Rattle.l3_quant.specs.Quantiser.{steps_of, scaled, greatest_reached, magnitude_at, magnitude, with_sign_of, quantised, quantised_lines, IsCodable, is_codable}
+use Rattle.l3_quant.specs.Quantiser.{steps_of, scaled, greatest_reached, magnitude_at, magnitude, with_sign_of, quantised, quantised_lines}
 use Rattle.l3_quant.specs.Amplified.{band_gain}
 use Rattle.l3_quant.specs.Gains.{CodableIsTested, ZeroAtTheTop}
 use Rattle.l3_quant.proofs.ReachedLemmas.{greatest_reached-rises, greatest_reached-small, greatest_reached-cut}

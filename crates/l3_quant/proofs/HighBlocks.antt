@@ -7,7 +7,8 @@ use Rattle.l3_quant.specs.Thresholds.{threshold_at, high_at}
 use Rattle.l3_quant.proofs.Powers.{Passes}
 use Rattle.l3_quant.proofs.Entries.{threshold_is, above_is}
 
--- the first number of block b passes n, and the last one does not pass n + 16, or n is the last that has 16 behind it
+-- the first number of block b passes n, and the last one does not pass n + 16, or n is the last
+-- that has 16 behind it
 abbrev high_test : ℕ → ℕ → Bool
 high_test b n =
     leb ((32 * n - 13) ^ 4 * 2 ^ 16) ((16777216 + 524288 * b) ^ 3) && ((leb 8176 n || ltb ((16777215 + 524288 * (b + 1)) ^ 3) ((32 * (n + 16) - 13) ^ 4 * 2 ^ 16)) && leb n 8176)

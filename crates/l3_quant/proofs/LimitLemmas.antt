@@ -1,4 +1,5 @@
--- The greatest absolute values of lines that are quantised to at most 0 to 14, and the counts of those that a line is above.
+-- The greatest absolute values of lines that are quantised to at most 0 to 14, and the counts of
+-- those that a line is above.
 use Rattle.std.proofs.Common.{◌≡◌, ◌↔◌, ℕ, zero, suc, ◌+◌, ◌-◌, ◌*◌, ◌/◌, ◌%◌, ◌^◌, ◌<◌, ◌≤◌, ◌<ℤ◌, ◌≤ℤ◌, ◌⊎◌, Bool, true, ◌&&◌, leb, ltb, min, ℤ, pos, negsuc, List, [], ◌∷◌, length, get_or, arith, refl, sym, subst, ap, ◌∙◌, inl, inr}
 use Rattle.std.specs.Prelude.{unsigned_abs}
 use Rattle.std.proofs.lemmas.Bool.{agree_below_at, and_parts, cases_lt, leb-true, ltb-true}
@@ -6,7 +7,7 @@ use Rattle.std.proofs.lemmas.Int.{ints}
 use Rattle.std.proofs.lemmas.Nat.{pow_pos}
 use Rattle.std.proofs.Math.Nat.{div-lt_iff_lt-mul, le-div_iff_mul-le, mul-le-mul, mul-le-mul_right, pow-le-pow_right}
 use Rattle.l3_tables.specs.Steps.{quarter_at}
-use Rattle.l3_quant.specs.Quantiser.{greatest_reached, magnitude, magnitude_at, scaled}
+use Rattle.l3_quant.specs.Quantiser.{greatest_reached, magnitude_at, scaled}
 use Rattle.l3_quant.specs.Thresholds.{threshold_at}
 use Rattle.l3_quant.specs.Limits.{IsLimit, product_at}
 use Rattle.l3_quant.specs.Magnitudes.{cut_sizes}

@@ -1,5 +1,5 @@
 -- The greatest values of bands.
-use Rattle.std.proofs.Common.{◌≡◌, ◌↔◌, ℕ, zero, suc, ◌+◌, ◌-◌, ◌*◌, ◌<◌, ◌≤◌, ◌^◌, Bool, true, false, List, [], ◌∷◌, length, get_or, set, take, drop, leb, ℤ, pos, arith, refl, sym, subst, ap, ◌∙◌, inl, inr}
+use Rattle.std.proofs.Common.{◌≡◌, ℕ, zero, suc, ◌+◌, ◌-◌, ◌*◌, ◌<◌, ◌≤◌, ◌^◌, Bool, true, false, List, length, get_or, set, take, drop, leb, ℤ, pos, arith, refl, sym, subst, ap, ◌∙◌, inl, inr}
 use Rattle.std.specs.Prelude.{All, Any, slice_range, unsigned_abs}
 use Rattle.std.specs.List.{list_all}
 use Rattle.std.proofs.Math.ListN.{length-set}
@@ -11,7 +11,7 @@ use Rattle.std.proofs.Common.{take-append-drop}
 use Rattle.l3_base.specs.declared.rate.SampleRate.{SampleRate}
 use Rattle.l3_base.specs.Amp.{no_amp}
 use Rattle.l3_base.specs.Rates.{hertz_index_of}
-use Rattle.l3_tables.specs.Bands.{edge_at, edges_at, band_edges}
+use Rattle.l3_tables.specs.Bands.{edge_at, band_edges}
 use Rattle.l3_tables.specs.Peaks.{AreBandPeaks, IsPeak}
 use Rattle.l3_tables.proofs.Edges.{edge_first, edge_last, edge_rises, index_small}
 use Rattle.l3_tables.proofs.ListLemmas.{filled_more}
@@ -40,7 +40,8 @@ front_more p xs a b le front part =
 
 -- ---- peaks
 
--- the sizes of values so many quarter steps below 258 are at most n exactly where that of the peak is
+-- the sizes of values so many quarter steps below 258 are at most n exactly where that of the peak
+-- is
 pub peak_size : (h : ℕ) (xs : List ℤ) (p : ℕ) → IsPeak xs p → (n : ℕ) →
     list_all (λ x. leb (magnitude_at (unsigned_abs x) h) n) xs ≡ leb (magnitude_at p h) n
 peak_size h xs p is n =

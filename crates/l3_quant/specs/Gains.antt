@@ -1,5 +1,5 @@
 -- The first gain of a spectrum, and the laws of the quantiser.
-use Rattle.std.specs.Prelude.{◌≡◌, ◌↔◌, ℕ, ◌≤◌, Bool, true, List, All, ℤ, pos}
+use Rattle.std.specs.Prelude.{◌≡◌, ◌↔◌, ℕ, ◌≤◌, true, List, All, ℤ, pos}
 use Rattle.l3_base.specs.Amp.{IsAmp, no_amp}
 use Rattle.l3_base.specs.Choosing.{least_passing}
 use Rattle.l3_base.specs.Spectrum.{IsLine}

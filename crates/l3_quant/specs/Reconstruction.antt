@@ -1,6 +1,6 @@
 -- What a quantised value stands for: the requantisation of Layer III (ISO/IEC 11172-3, 2.4) in
 -- whole numbers; the roundings are this project's own.
-use Rattle.std.specs.Prelude.{◌≡◌, ℕ, ◌+◌, ◌*◌, ◌/◌, ◌%◌, ◌^◌, ◌≤◌, nat_le, ℤ, unsigned_abs}
+use Rattle.std.specs.Prelude.{ℕ, ◌+◌, ◌*◌, ◌/◌, ◌%◌, ◌^◌, ◌≤◌, nat_le, ℤ, unsigned_abs}
 use Rattle.l3_base.specs.Choosing.{greatest_passing}
 use Rattle.l3_tables.specs.Steps.{quarter_at}
 use Rattle.l3_quant.specs.Quantiser.{steps_of}

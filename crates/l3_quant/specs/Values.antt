@@ -1,6 +1,6 @@
 -- The values of scaled lines, where each line has quarter steps of its own. Only the inside of this
 -- crate speaks of these.
-use Rattle.std.specs.Prelude.{◌≡◌, ◌<◌, ◌^◌, ℕ, List, ℤ, pos, min, length, slice_index, slice_index_or, unsigned_abs}
+use Rattle.std.specs.Prelude.{◌≡◌, ◌<◌, ◌^◌, ℕ, List, ℤ, pos, min, slice_index, slice_index_or, unsigned_abs}
 use Rattle.l3_quant.specs.Quantiser.{scaled, magnitude_at, with_sign_of}
 
 -- 576 lines are scaled, each by its own quarter steps, and cut at 2^30

@@ -1,7 +1,8 @@
 ghost use Rattle.std.specs.Prelude.{◌≡◌, ◌<◌, ◌≤◌, ◌+◌, ◌^◌, length};
 ghost use Rattle.l3_quant.specs.Limits.{AreLimits, IsLimit, product_at};
 
-/// For 0 to 3 quarter steps and each value of 1 to 15 the greatest number whose product with the factor of the steps is below 2^54 times the value's threshold.
+/// For 0 to 3 quarter steps and each value of 1 to 15 the greatest number whose product with the
+/// factor of the steps is below 2^54 times the value's threshold.
 ///
 /// This project's own, after thresholds and factors.
 #[rattlefmt::skip]
@@ -42,7 +43,8 @@ fn product(r: usize, k: usize) -> u64
     PRODUCTS[r][k]
 }
 
-// The greatest absolute value of a line that is quantised to at most `k`, so many quarter steps below 258.
+// The greatest absolute value of a line that is quantised to at most `k`, so many quarter steps
+// below 258.
 #[inline(always)]
 fn limit(k: usize, h: u32) -> i32
     requires value { k < 15 }
@@ -61,7 +63,8 @@ fn no_limits() -> [i32; 15]
     [0; 15]
 }
 
-// The greatest absolute values of lines that are quantised to at most 0 to 14, so many quarter steps below 258.
+// The greatest absolute values of lines that are quantised to at most 0 to 14, so many quarter
+// steps below 258.
 pub(crate) fn limits(h: u32) -> [i32; 15]
     requires { h ≤ 322 }
     ensures long { length result ≡ 15 }

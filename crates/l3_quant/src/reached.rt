@@ -41,8 +41,8 @@ fn middle_reached(y: u32) -> u32
     }
 }
 
-// One turn of a halving: the lower end of that half of the `2 * half` values from `n` on in which the greatest one lies, by a product: thresholds are too
-// irregular for a branch.
+// One turn of a halving: the lower end of that half of the `2 * half` values from `n` on in which
+// the greatest one lies, by a product: thresholds are too irregular for a branch.
 #[inline(always)]
 fn half_of(y: u32, n: usize, half: usize) -> usize
     requires begins { threshold_at n ≤ y }
@@ -55,7 +55,8 @@ fn half_of(y: u32, n: usize, half: usize) -> usize
     n + half * usize::from(threshold(n + half) <= y)
 }
 
-// The same above them: four turns after the value of its block; each name tells how many values are left from it on.
+// The same above them: four turns after the value of its block; each name tells how many values are
+// left from it on.
 #[inline(always)]
 fn high_reached(y: u32) -> u32
     requires low { 16777216 ≤ y }

@@ -1,7 +1,10 @@
-ghost use Rattle.std.specs.Prelude.{◌≤ℤ◌, pos, negsuc};
+ghost use Rattle.std.specs.Prelude.{◌<◌, ◌≤ℤ◌, pos, negsuc};
 
-use crate::{all, band_peaks, cut_values, first_gain, line, line_peaks, plain_line};
-use l3_base::{SampleRate, Spectrum};
+use crate::plain::plain_line;
+use crate::{
+    all, all_amp, band_peaks, cut_values, first_gain, first_gain_amp, line, line_peaks, reconstruct,
+};
+use l3_base::{Amp, SampleRate, Spectrum};
 use l3_tables::edge;
 
 #[test]
@@ -24,9 +27,31 @@ fn quantised_lines(rt: HostRuntime) {
 #[test]
 fn first_gains(rt: HostRuntime) {
     let mut spec = Spectrum::zero();
+    let mut amp = Amp::zero();
     assert_eq!(rt; first_gain(&spec), 0);
+    assert_eq!(rt; first_gain_amp(&spec, SampleRate::Hz44100, &amp), 0);
     spec.set(0, 16777216);
     assert_eq!(rt; first_gain(&spec), 141);
+    assert_eq!(rt; first_gain_amp(&spec, SampleRate::Hz44100, &amp), 141);
+    // Half the line needs 4 steps of gain less, but its band is amplified by 6 steps.
+    spec.set(4, 8388608);
+    amp.set(1, 3);
+    assert_eq!(rt; first_gain_amp(&spec, SampleRate::Hz44100, &amp), 143);
+    amp.set(0, 2);
+    assert_eq!(rt; first_gain_amp(&spec, SampleRate::Hz44100, &amp), 145);
+}
+
+#[test]
+fn reconstructed_lines(rt: HostRuntime) {
+    let cases = [
+        (1, 210, 16777216),
+        (8, 210, 268435456),
+        (1, 206, 8388608),
+        (0, 0, 0),
+    ];
+    for (n, gain, line) in cases {
+        assert_eq!(rt; reconstruct(n, gain), line, "at {n}, {gain}");
+    }
 }
 
 fn no_values() -> [i16; 576] {
@@ -109,13 +134,14 @@ fn cuts_and_peaks(rt: HostRuntime) {
         (8376320, 210, 1),
         (8376319, 210, 0),
     ];
+    let amp = Amp::zero();
     let mut cut = no_cuts();
     let mut peaks = no_peaks();
     for (x, gain, value) in cases {
         let mut spec = Spectrum::zero();
         spec.set(575, x);
         spec.set(23, -x);
-        cut_values(&spec, gain, &mut cut);
+        cut_values(&spec, SampleRate::Hz44100, &amp, gain, &mut cut);
         assert_eq!(rt;
             (cut[22], cut[23], cut[575]),
             (0, value, value),
@@ -126,7 +152,7 @@ fn cuts_and_peaks(rt: HostRuntime) {
             (lines[4], lines[5], lines[21]),
             (0, x.unsigned_abs(), x.unsigned_abs())
         );
-        let coded = band_peaks(&lines, gain, &mut peaks);
+        let coded = band_peaks(&lines, &amp, gain, &mut peaks);
         assert_eq!(rt; coded, gain > 0, "at {x}, {gain}");
         if coded {
             assert_eq!(rt;
@@ -138,36 +164,58 @@ fn cuts_and_peaks(rt: HostRuntime) {
     }
 }
 
-// Whether `cut_values` gives what the plain program does line by line.
-fn cuts_agree(spec: &Spectrum, gain: i16) -> bool
-    requires low { negsuc 63 ≤ℤ gain }
-    requires high { gain ≤ℤ pos 255 }
+// The gain of a line: that of the band whose edges it lies between.
+fn line_gain(amp: &Amp, rate: SampleRate, gain: u8, line: usize) -> i16
+    ensures low { negsuc 63 ≤ℤ result }
+    ensures high { result ≤ℤ pos 255 }
 {
+    let rate = rate.index();
+    for band in 0..21 {
+        if usize::from(edge(rate, band)) <= line && line < usize::from(edge(rate, band + 1)) {
+            return i16::from(gain) - 2 * i16::from(amp.get(band));
+        }
+    }
+    i16::from(gain)
+}
+
+// Whether `all_amp` and `cut_values` give what the plain program does line by line.
+fn values_agree(spec: &Spectrum, rate: SampleRate, amp: &Amp, gain: u8) -> bool {
+    let mut out = no_values();
     let mut cut = no_cuts();
-    cut_values(spec, gain, &mut cut);
+    let whole = all_amp(spec, rate, amp, gain, &mut out);
+    cut_values(spec, rate, amp, gain, &mut cut);
+    let mut coded = true;
     let mut same = true;
     let lines = spec.lines();
     for i in 0..576 {
-        let value = plain_line(lines[i], gain).unwrap_or(15).min(15);
-        same = same && u16::from(cut[i]) == value;
+        let plain = plain_line(lines[i], line_gain(amp, rate, gain, i));
+        same = same && u16::from(cut[i]) == plain.unwrap_or(15).min(15);
+        match plain {
+            None => coded = false,
+            Some(n) => {
+                let value = i32::from(out[i]);
+                same = same
+                    && (!whole
+                        || (value.unsigned_abs() == u32::from(n)
+                            && (value < 0) == (lines[i] < 0 && n > 0)));
+            }
+        }
     }
-    same
+    same && whole == coded
 }
 
 // Whether `band_peaks` gives the greatest value that the plain program has in each band.
-fn peaks_agree(spec: &Spectrum, gain: i16) -> bool
-    requires low { negsuc 63 ≤ℤ gain }
-    requires high { gain ≤ℤ pos 255 }
-{
+fn peaks_agree(spec: &Spectrum, rate: SampleRate, amp: &Amp, gain: u8) -> bool {
     let mut peaks = no_peaks();
-    let whole = band_peaks(&line_peaks(spec, SampleRate::Hz32000), gain, &mut peaks);
+    let whole = band_peaks(&line_peaks(spec, rate), amp, gain, &mut peaks);
     let mut greatest = 0;
     let mut same = true;
     let lines = spec.lines();
+    let index = rate.index();
     for band in 0..22 {
         let mut peak = 0;
-        for i in usize::from(edge(2, band))..usize::from(edge(2, band + 1)) {
-            peak = peak.max(plain_line(lines[i], gain).unwrap_or(8192));
+        for i in usize::from(edge(index, band))..usize::from(edge(index, band + 1)) {
+            peak = peak.max(plain_line(lines[i], line_gain(amp, rate, gain, i)).unwrap_or(8192));
         }
         greatest = peak.max(greatest);
         same = same && (!whole || peaks[band] == peak);
@@ -175,11 +223,32 @@ fn peaks_agree(spec: &Spectrum, gain: i16) -> bool
     same && whole == (greatest < 8192)
 }
 
+// Amplifications of 0 to 3 in turn, so many bands each.
+fn amplified(bands: usize) -> Amp
+    requires { 0 < bands }
+{
+    let mut amp = Amp::zero();
+    for band in 0..21 {
+        amp.set(band, ((band / bands) % 4) as u8);
+    }
+    amp
+}
+
 #[test]
-fn cuts_and_halving_agree(rt: HostRuntime) {
+fn amplified_values_and_halving_agree(rt: HostRuntime) {
+    let rates = [
+        SampleRate::Hz44100,
+        SampleRate::Hz48000,
+        SampleRate::Hz32000,
+    ];
     let spec = spectrum(1);
-    for gain in [-64, 130, 141, 150, 160, 170, 181, 200, 223, 255] {
-        assert!(rt; cuts_agree(&spec, gain), "at {gain}");
-        assert!(rt; peaks_agree(&spec, gain), "at {gain}");
+    for rate in rates {
+        for bands in [1, 2, 21] {
+            let amp = amplified(bands);
+            for gain in [0, 130, 147, 160, 181, 223, 255] {
+                assert!(rt; values_agree(&spec, rate, &amp, gain), "at {bands}, {gain}");
+                assert!(rt; peaks_agree(&spec, rate, &amp, gain), "at {bands}, {gain}");
+            }
+        }
     }
 }

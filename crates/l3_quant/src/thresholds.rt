@@ -1,7 +1,8 @@
 ghost use Rattle.std.specs.Prelude.{◌≡◌, ◌<◌, ◌≤◌};
 ghost use Rattle.l3_quant.specs.Thresholds.{threshold_at, low_at, middle_at, high_at};
 
-/// For each value of 0 to 8192 the least scaled line that reaches it. This project's own, after its rounding constant 13/32.
+/// For each value of 0 to 8192 the least scaled line that reaches it. This project's own, after its
+/// rounding constant 13/32.
 pub static THRESHOLDS: [u32; 8193] = [
     0, 2045, 7626, 14598, 22548, 31279, 40673, 50646, 61137, 72101, 83499, 95301, 107480, 120015,
     132886, 146078, 159574, 173362, 187430, 201767, 216364, 231211, 246300, 261625, 277177, 292950,
@@ -1121,7 +1122,8 @@ pub static MIDDLE: [u16; 2048] = [
     511, 511, 512, 512,
 ];
 
-/// The value that the first scaled line of each block of 2^19 from 2^24 on reaches, cut at 8176, for the blocks that begin below the last threshold.
+/// The value that the first scaled line of each block of 2^19 from 2^24 on reaches, cut at 8176,
+/// for the blocks that begin below the last threshold.
 pub static HIGH: [u16; 1259] = [
     512, 524, 536, 548, 559, 571, 582, 594, 605, 616, 628, 639, 650, 661, 672, 683, 694, 705, 715,
     726, 737, 747, 758, 768, 779, 789, 800, 810, 820, 831, 841, 851, 861, 871, 881, 891, 901, 911,

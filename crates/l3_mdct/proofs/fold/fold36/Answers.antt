@@ -5,7 +5,7 @@ use Rattle.std.specs.Prelude.{unsigned_abs}
 use Rattle.l3_tables.specs.Lists.{entry}
 use Rattle.l3_tables.proofs.Entries.{within_same}
 use Rattle.l3_tables.proofs.ListLemmas.{filled_more}
-use Rattle.l3_mdct.specs.Fold.{folded}
+use Rattle.l3_mdct.specs.Fold.{folded_slot}
 use Rattle.l3_mdct.proofs.FoldLaw.{folded-low, folded-high, folded_small}
 use Rattle.l3_mdct.proofs.fold.fold36.Goals as goal
 
@@ -18,7 +18,7 @@ loop-k-preserved c =
     let room : c.loop-k.k < length c.loop-k.f = omega arith in
     record {
       long = length-set c.loop-k.f c.loop-k.k _ ∙ c.loop-k.invariant.long;
-      value = filled_more (λ n y. y ≡ folded (entry c.args.z.now) n) c.loop-k.f c.loop-k.k _ (pos 0) room c.loop-k.invariant.value
+      value = filled_more (λ n y. y ≡ folded_slot (entry c.args.z.now) n) c.loop-k.f c.loop-k.k _ (pos 0) room c.loop-k.invariant.value
           (difference ∙ sym (folded-low (entry c.args.z.now) c.loop-k.k c.loop-k-test.true));
     }
 
@@ -32,7 +32,7 @@ loop-k-2-preserved c =
     record {
       from = omega arith;
       long = length-set c.loop-k-2.f c.loop-k-2.k _ ∙ c.loop-k-2.invariant.long;
-      value = filled_more (λ n y. y ≡ folded (entry c.args.z.now) n) c.loop-k-2.f c.loop-k-2.k _ (pos 0) room c.loop-k-2.invariant.value
+      value = filled_more (λ n y. y ≡ folded_slot (entry c.args.z.now) n) c.loop-k-2.f c.loop-k-2.k _ (pos 0) room c.loop-k-2.invariant.value
           (sum ∙ sym (folded-high (entry c.args.z.now) c.loop-k-2.k c.loop-k-2.invariant.from));
     }
 

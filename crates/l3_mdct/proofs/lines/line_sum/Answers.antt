@@ -5,7 +5,7 @@ use Rattle.l3_tables.specs.Lists.{entry}
 use Rattle.l3_tables.specs.Sums.{sum_below}
 use Rattle.l3_tables.proofs.Entries.{within_same}
 use Rattle.l3_tables.proofs.SumLemmas.{sum_below-none, one_more, one_more_small}
-use Rattle.l3_mdct.specs.Fold.{folded_cosine, folded_sum}
+use Rattle.l3_mdct.specs.Fold.{folded_cosine, folded_slots_sum}
 use Rattle.l3_mdct.proofs.lines.line_sum.Goals as goal
 
 pub loop-k-init : goal.loop-k-init
@@ -37,7 +37,7 @@ loop-k-preserved c =
     }
 
 pub returns-clause-value : goal.returns-clause-value
-unfolding folded_sum
+unfolding folded_slots_sum
 returns-clause-value c =
     let end : c.loop-k.k ≡ 18 = omega arith in
     c.loop-k.invariant.sum_is ∙ ap (λ n. sum_below n (λ k. entry c.args.f.now k *ℤ folded_cosine c.args.m k)) end

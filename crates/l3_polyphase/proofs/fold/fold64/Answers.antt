@@ -4,7 +4,7 @@ use Rattle.std.proofs.lemmas.Int.{ints, to_z-of_z}
 use Rattle.std.specs.Prelude.{unsigned_abs}
 use Rattle.l3_tables.specs.Lists.{entry}
 use Rattle.l3_tables.proofs.ListLemmas.{filled_more}
-use Rattle.l3_polyphase.specs.Fold.{folded}
+use Rattle.l3_polyphase.specs.Fold.{folded_column}
 use Rattle.l3_polyphase.specs.Samples.{column_in}
 use Rattle.l3_polyphase.proofs.FoldLaw.{at_low, at_high, at_first}
 use Rattle.l3_polyphase.proofs.fold.fold64.Goals as goal
@@ -31,7 +31,7 @@ loop-j-init c =
     record {
       from = omega arith;
       long = length-set c.args.u.now 0 _ ∙ c.told-u;
-      value = filled_more (λ m z. z ≡ folded (column_in c.args.y.now) m) c.args.u.now 0 _ (pos 0) (omega arith) (λ m none. absurd (omega arith))
+      value = filled_more (λ m z. z ≡ folded_column (column_in c.args.y.now) m) c.args.u.now 0 _ (pos 0) (omega arith) (λ m none. absurd (omega arith))
           (to_z-of_z w64 _ fits ∙ sym (at_first (column_in c.args.y.now)));
     }
 
@@ -46,7 +46,7 @@ loop-j-preserved c =
     record {
       from = omega arith;
       long = length-set c.loop-j.u c.loop-j.j _ ∙ c.loop-j.invariant.long;
-      value = filled_more (λ m z. z ≡ folded (column_in c.args.y.now) m) c.loop-j.u c.loop-j.j _ (pos 0) (omega arith) c.loop-j.invariant.value
+      value = filled_more (λ m z. z ≡ folded_column (column_in c.args.y.now) m) c.loop-j.u c.loop-j.j _ (pos 0) (omega arith) c.loop-j.invariant.value
           (sum ∙ sym (at_low (column_in c.args.y.now) c.loop-j.j c.loop-j.invariant.from (omega arith)));
     }
 
@@ -61,6 +61,6 @@ loop-j-2-preserved c =
     record {
       from = omega arith;
       long = length-set c.loop-j-2.u c.loop-j-2.j _ ∙ c.loop-j-2.invariant.long;
-      value = filled_more (λ m z. z ≡ folded (column_in c.args.y.now) m) c.loop-j-2.u c.loop-j-2.j _ (pos 0) (omega arith) c.loop-j-2.invariant.value
+      value = filled_more (λ m z. z ≡ folded_column (column_in c.args.y.now) m) c.loop-j-2.u c.loop-j-2.j _ (pos 0) (omega arith) c.loop-j-2.invariant.value
           (sum ∙ sym (at_high (column_in c.args.y.now) c.loop-j-2.j c.loop-j-2.invariant.from));
     }

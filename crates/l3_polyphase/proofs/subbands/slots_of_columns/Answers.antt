@@ -2,9 +2,9 @@ use Rattle.std.proofs.Common.{◌^◌, pos, ◌+ℤ◌, ap, ◌∙◌}
 use Rattle.l3_tables.specs.Lists.{entry}
 use Rattle.l3_tables.specs.Sums.{floor_div}
 use Rattle.l3_tables.proofs.Entries.{within_same}
-use Rattle.l3_polyphase.specs.Fold.{folded}
+use Rattle.l3_polyphase.specs.Fold.{folded_column}
 use Rattle.l3_polyphase.specs.Samples.{column_in}
-use Rattle.l3_polyphase.proofs.FoldLaw.{fold_is, folded_sum-same, folded_small}
+use Rattle.l3_polyphase.proofs.FoldLaw.{fold_is, folded_columns_sum-same, folded_small}
 use Rattle.l3_polyphase.proofs.subbands.slots_of_columns.Goals as goal
 
 pub slots_of_folded-requires : goal.slots_of_folded-requires
@@ -14,4 +14,4 @@ slots_of_folded-requires c = λ j lt.
 pub returns-clause-value : goal.returns-clause-value
 returns-clause-value c = λ i lt.
     c.slots_of_folded.ensures.value i lt
-    ∙ ap (λ z. floor_div (z +ℤ pos 67108864) 134217728) (folded_sum-same (entry c.fold64.new.u) (folded (column_in c.args.sums.now)) i c.fold64.ensures ∙ fold_is (column_in c.args.sums.now) i)
+    ∙ ap (λ z. floor_div (z +ℤ pos 67108864) 134217728) (folded_columns_sum-same (entry c.fold64.new.u) (folded_column (column_in c.args.sums.now)) i c.fold64.ensures ∙ fold_is (column_in c.args.sums.now) i)

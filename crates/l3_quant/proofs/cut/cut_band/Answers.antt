@@ -1,4 +1,4 @@
-use Rattle.std.proofs.Common.{◌≡◌, ◌+◌, ◌<◌, ◌≤◌, min, get_or, pos, refl, ap, ◌∙◌, arith}
+use Rattle.std.proofs.Common.{◌+◌, get_or, pos, refl, ◌∙◌, arith}
 use Rattle.std.specs.Prelude.{unsigned_abs}
 use Rattle.l3_tables.proofs.Edges.{edge_order}
 use Rattle.l3_quant.proofs.CutLemmas.{cut_next, edge_last_amplified}

@@ -1,4 +1,4 @@
-use Rattle.std.proofs.Common.{rules, FitsSigned, w16, List, ℕ, ℤ, ◌≡◌, ◌+◌, ◌≤◌, ap, subst, sym, ◌∙◌, arith, length, pos, get_or, min}
+use Rattle.std.proofs.Common.{rules, FitsSigned, w16, List, ℕ, ℤ, ◌≡◌, ◌+◌, ◌≤◌, ap, subst, sym, ◌∙◌, arith, length, pos, min}
 use Rattle.std.specs.Prelude.{All, unsigned_abs}
 use Rattle.std.proofs.lemmas.Int.{to_z-of_z}
 use Rattle.std.proofs.lemmas.List.Elements.{All-map}

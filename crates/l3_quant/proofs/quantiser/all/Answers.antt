@@ -1,5 +1,5 @@
-use Rattle.std.proofs.Common.{rules, FitsSigned, w16, true, ◌≡◌, ◌<◌, ◌≤◌, ◌^◌, ap, ◌∙◌, arith, get_or, length, min, sym, subst, List, ℕ, ℤ, pos}
-use Rattle.std.specs.Prelude.{All, Any, unsigned_abs}
+use Rattle.std.proofs.Common.{rules, FitsSigned, w16, true, ◌≡◌, ◌<◌, ◌^◌, ap, ◌∙◌, get_or, length, min, subst, List, ℤ, pos}
+use Rattle.std.specs.Prelude.{Any, unsigned_abs}
 use Rattle.std.proofs.lemmas.Bool.{OnFalse_at, OnFalse_from, OnTrue_at, OnTrue_from}
 use Rattle.std.proofs.lemmas.Int.{to_z-of_z}
 use Rattle.l3_quant.specs.Quantiser.{IsCodable, magnitude, quantised_lines, scaled, steps_of}
