@@ -12,7 +12,8 @@ use Rattle.l3_stream.specs.Frames.{placed}
 use Rattle.l3_stream.specs.Faults.{◌>>=◌, clear}
 use Rattle.l3_stream.specs.Deviation.{Place, head_at, slot_at, main_at, next_place, frames_from, first_place}
 use Rattle.l3_reader.specs.Answer.{Explains}
-use Rattle.l3_reader.specs.Steps.{frame_at, BeginsWith, NoHeader}
+use Rattle.l3_reader.specs.InTurn.{frame_at}
+use Rattle.l3_reader.specs.Steps.{BeginsWith, NoHeader}
 use Rattle.l3_reader.proofs.UnitSteps.{bind_bad}
 use Rattle.l3_reader.proofs.WholeSteps.{explains_of, explains_by, frame_few}
 

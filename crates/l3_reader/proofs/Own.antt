@@ -17,7 +17,7 @@ use Rattle.l3_stream.specs.Tape.{start_of}
 use Rattle.l3_stream.specs.Faults.{◌>>=◌, checked, or_fault, clear}
 use Rattle.l3_stream.specs.UnitReading.{pairs_at, quads_at, unit_at, main_units_at}
 use Rattle.l3_stream.specs.Deviation.{Place, head_at, slot_at, main_at}
-use Rattle.l3_reader.specs.Steps.{frame_at}
+use Rattle.l3_reader.specs.InTurn.{frame_at}
 
 abbrev pub IsOwn : {A : Type 0} → Result A StreamFault → Type 0
 IsOwn r = r ≡ Err faults.Read → ⊥

@@ -18,7 +18,8 @@ use Rattle.l3_stream.specs.Deviation.{Place, head_at}
 use Rattle.l3_stream.proofs.Steps.{bind_again, checked_again}
 use Rattle.l3_stream.proofs.Locality.{frame_is_local}
 use Rattle.l3_reader.specs.Answer.{Explains}
-use Rattle.l3_reader.specs.Steps.{frame_at, ReadsFront}
+use Rattle.l3_reader.specs.InTurn.{frame_at}
+use Rattle.l3_reader.specs.Steps.{ReadsFront}
 use Rattle.l3_reader.proofs.UnitSteps.{bind_bad}
 use Rattle.l3_reader.proofs.MainSteps.{checked_bad}
 use Rattle.l3_reader.proofs.Loops.{length-put_mid}

@@ -6,7 +6,8 @@ ghost use Rattle.l3_base.specs.Lengths.{frame_bytes_of};
 ghost use Rattle.l3_stream.specs.Fields.{same};
 ghost use Rattle.l3_stream.specs.Frames.{IsCoded};
 ghost use Rattle.l3_stream.specs.Header.{header_at, settings_at};
-ghost use Rattle.l3_reader.specs.Steps.{IsKept, frame_at, gives, place_of};
+ghost use Rattle.l3_reader.specs.InTurn.{frame_at};
+ghost use Rattle.l3_reader.specs.Steps.{IsKept, gives, place_of};
 
 use crate::StreamFault;
 use crate::main_data::read_main;

@@ -8,7 +8,8 @@ use Rattle.l3_stream.specs.declared.unit.Unit.{Unit}
 use Rattle.l3_stream.specs.declared.unit.ChosenFrame.{ChosenFrame}
 use Rattle.l3_stream.specs.Frames.{units_of, placed, IsCoded}
 use Rattle.l3_stream.specs.Deviation.{Place, main_at, slot_at, next_place}
-use Rattle.l3_reader.specs.Steps.{frame_at, place_of, slot_of}
+use Rattle.l3_reader.specs.InTurn.{frame_at}
+use Rattle.l3_reader.specs.Steps.{place_of, slot_of}
 use Rattle.l3_reader.proofs.UnitSteps.{gives_err}
 use Rattle.l3_reader.proofs.FrameSteps.{frame_bad_side, frame_bad_main, frame_read, frame_coded, slot_part, side_part, appended_place, appended_kept, appended_slot, kept_place, passed_place, passed_kept, end_within, frame_made}
 use Rattle.l3_reader.proofs.Own.{own_frame, own_fault, not_read}

@@ -3,7 +3,8 @@ use Rattle.std.proofs.lemmas.List.{length-replicate, take_at, length-append}
 use Rattle.l3_bits.specs.Bits.{bits_of}
 use Rattle.l3_stream.specs.Fields.{same}
 use Rattle.l3_stream.specs.Header.{header_at}
-use Rattle.l3_reader.specs.Steps.{frame_at, place_of}
+use Rattle.l3_reader.specs.InTurn.{frame_at}
+use Rattle.l3_reader.specs.Steps.{place_of}
 use Rattle.l3_reader.proofs.WholeSteps.{told_bad_header, told_short, told_whole, told_rest, buffer_whole, buffer_room, refused_by, told_explains}
 use Rattle.l3_reader.proofs.frames.read_whole.Goals as goal
 
