@@ -76,6 +76,7 @@ pub record GivesFrame (old new : Progress) (frame : ChosenFrame) : Type 0 where
 pub record BeginsWithFrame (old new : Progress) (frame : ChosenFrame) (left : List ℕ) (now : Option (List ℕ)) : Type 0 where
   pub settings : Settings
   pub told : settings_by old.settings left ≡ Some settings
+  pub tells : new.settings ≡ Some settings
   pub is : frame_at settings old.place left ≡ Ok (frame, new.place)
   pub gone : now ≡ Some (drop (frame_bytes_of settings old.place.number) left)
   pub reading : still_read old left ≡ with_frames (frame ∷ []) (still_read new (drop (frame_bytes_of settings old.place.number) left))

@@ -1,5 +1,5 @@
 -- What the steps of the reader give.
-use Rattle.std.specs.Prelude.{◌≡◌, ℕ, ◌+◌, ◌-◌, ◌*◌, ◌^◌, ◌<◌, ◌≤◌, Bool, List, [], ◌++◌, length, take, drop, slice_index, nat_lt, if◌then◌else◌, ◌⊎◌, Option, None, Some, Result, Ok, Err}
+use Rattle.std.specs.Prelude.{◌≡◌, ℕ, ◌+◌, ◌-◌, ◌*◌, ◌^◌, ◌<◌, ◌≤◌, Bool, List, [], ◌++◌, length, take, drop, slice_index, nat_lt, if◌then◌else◌, ◌⊎◌, ⊤, Option, None, Some, Result, Ok, Err}
 use Rattle.l3_bits.specs.Bits.{bits_of}
 use Rattle.l3_base.specs.declared.settings.Settings.{Settings}
 use Rattle.l3_base.specs.Lengths.{slots_before, slot_bytes_of}
@@ -18,6 +18,15 @@ use Rattle.l3_reader.specs.InTurn.{Progress}
 abbrev pub gives : {A B : Type 0} → (A → B) → Result A StreamFault → Result B StreamFault
 gives made (Ok x) = Ok (made x)
 gives made (Err fault) = Err fault
+
+-- a fault of a frame whose header is the right one and whose bytes are there, or of the bits around its codes
+abbrev pub IsWithin : StreamFault → Type 0
+IsWithin (faults.BadSide at) = ⊤
+IsWithin (faults.BadBegin at) = ⊤
+IsWithin (faults.BadCode bit) = ⊤
+IsWithin (faults.WrongLength bit) = ⊤
+IsWithin (faults.NotZero bit) = ⊤
+IsWithin other = ⊥
 
 -- the regions of a unit
 abbrev pub regions_of : Settings → Unit → Regions

@@ -2,11 +2,12 @@
 
 ghost use Rattle.std.specs.Prelude.{◌≡◌, ◌≢◌, ℕ, List, ◌≤◌, ◌<◌, ◌+◌, ◌-◌, ◌*◌, ◌^◌, ◌++◌, [], Ok, Err, Some, IfOk, IfErr, IfSome, IfNone, OnOk, OnErr, drop, length, replicate};
 ghost use Rattle.std.specs.Io.KnownBytes.{Consumes};
+ghost use Rattle.l3_base.specs.declared.settings.Settings.{Settings};
 ghost use Rattle.l3_base.specs.Lengths.{frame_bytes_of};
 ghost use Rattle.l3_io.specs.Causes.{count_after};
 ghost use Rattle.l3_stream.specs.Frames.{IsCoded};
 ghost use Rattle.l3_stream.specs.Faults.{clear};
-ghost use Rattle.l3_reader.specs.Answer.{Explains};
+ghost use Rattle.l3_reader.specs.Answer.{IsFaultOf};
 ghost use Rattle.l3_reader.specs.InTurn.{LeavesBehind, frame_at};
 ghost use Rattle.l3_reader.specs.Steps.{BeginsWith, HasRest, IsKept, NoHeader, ReadsFront, place_of};
 
@@ -89,13 +90,14 @@ pub(crate) fn read_whole<S: Source>(
     requires kept { IsKept settings.now tape.old }
     requires number { tape.old.number < 2 ^ 24 }
     ensures content { IfOk result (λ frame. IfSome (S.left source.old) (λ left. frame_at settings.now (place_of tape.old) (header.now ++ left) ≡ Ok (frame, place_of tape.new))) }
-    ensures fault { IfErr result (λ fault. IfSome (S.left source.old) (λ left. Explains fault (frame_at settings.now (place_of tape.old) (header.now ++ left)))) }
+    ensures fault { IfErr result (λ fault. IfSome (S.left source.old) (λ left. IsFaultOf fault (frame_at settings.now (place_of tape.old) (header.now ++ left)))) }
     ensures gone { IfErr result (λ fault. IfSome (S.left source.old) (λ left.
         LeavesBehind fault (frame_bytes_of settings.now tape.old.number) (header.now ++ left) (S.left source.new))) }
     ensures memory { result ≢ Err StreamFault.Memory }
     ensures steady { result ≢ Err StreamFault.Read → S.faults source.new ≡ S.faults source.old }
     ensures rest { OnOk result (IfSome (S.left source.old) (λ left. S.left source.new ≡ Some (drop (frame_bytes_of settings.now tape.old.number) (header.now ++ left)))) }
-    ensures kept { IsKept settings.now tape.new }
+    ensures kept { OnOk result (IsKept settings.now tape.new) }
+    ensures still { OnErr result ((st : Settings) → IsKept st tape.old → IsKept st tape.new) }
     ensures same { OnErr result (place_of tape.new ≡ place_of tape.old) }
     ensures number { OnOk result (tape.new.number ≡ tape.old.number + 1) }
     ensures coded { IfOk result (λ frame. IsCoded settings.now frame) }

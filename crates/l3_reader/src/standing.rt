@@ -38,10 +38,7 @@ impl Standing {
 }
 
 // The settings of the frame with this header: those of the first header, which is this one where no frame was read.
-fn settings_under(
-    settings: Option<Settings>,
-    header: &[u8; 4],
-) -> Result<Settings, StreamFault>
+fn settings_under(settings: Option<Settings>, header: &[u8; 4]) -> Result<Settings, StreamFault>
     ensures { result ≡ or_fault (StreamFault.BadHeader 0) (settings_by settings header.now) }
 {
     if let Some(settings) = settings {
@@ -75,8 +72,8 @@ pub(crate) fn read_next<S: Source>(
     ensures steady { result ≢ Err StreamFault.Read → S.faults source.new ≡ S.faults source.old }
 {
     let limit = u64::from(standing.limit);
-    let Some(header) = read_header_bytes(source, limit, standing.tape.number, standing.tape.at)?
-    else {
+    let found = read_header_bytes(source, limit, standing.tape.number, standing.tape.at)?;
+    let Some(header) = found else {
         test_rest(&standing.tape)?;
         return Ok(None);
     };

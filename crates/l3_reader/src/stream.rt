@@ -4,7 +4,7 @@ ghost use Rattle.std.specs.Prelude.{◌≡◌, ◌≢◌, ◌≤◌, ◌^◌, �
 ghost use Rattle.l3_io.specs.Causes.{count_after};
 ghost use Rattle.l3_stream.specs.Frames.{IsCoded};
 ghost use Rattle.l3_stream.specs.Deviation.{reading_of};
-ghost use Rattle.l3_reader.specs.Answer.{Explains, content_in};
+ghost use Rattle.l3_reader.specs.Answer.{IsFaultOf, content_in};
 ghost use Rattle.l3_reader.specs.InTurn.{HasStopped};
 
 use crate::{FrameReader, StreamFault};
@@ -44,7 +44,7 @@ pub fn read_stream<S: Source>(
 ) -> Result<Stream, StreamFault>
     requires { limit ≤ 16777216 }
     ensures content { IfOk result (λ stream. IfSome (S.left source.old) (λ left. reading_of limit left ≡ Ok (content_in stream))) }
-    ensures fault { IfErr result (λ fault. IfSome (S.left source.old) (λ left. Explains fault (reading_of limit left))) }
+    ensures fault { IfErr result (λ fault. IfSome (S.left source.old) (λ left. IsFaultOf fault (reading_of limit left))) }
     ensures rest { OnOk result (IfSome (S.left source.old) (λ _. S.left source.new ≡ Some [])) }
     ensures stopped { IfErr result (λ fault. IfSome (S.left source.old) (λ left. HasStopped limit left fault (S.left source.new))) }
 
