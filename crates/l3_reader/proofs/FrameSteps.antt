@@ -25,7 +25,8 @@ use Rattle.l3_stream.proofs.Tape.{slots-suc}
 use Rattle.l3_stream.proofs.FrameReading.{IsPlace, AreBytes, head_takes, main_takes}
 use Rattle.l3_stream.proofs.WholeFrame.{frame_takes, slot_size}
 use Rattle.l3_reader.specs.declared.tape.Tape.{Tape}
-use Rattle.l3_reader.specs.Steps.{IsKept, GoesTo, frame_at, place_of, slot_of}
+use Rattle.l3_reader.specs.InTurn.{frame_at}
+use Rattle.l3_reader.specs.Steps.{IsKept, GoesTo, place_of, slot_of}
 use Rattle.l3_reader.proofs.UnitSteps.{bind_bad}
 use Rattle.l3_reader.proofs.MainSteps.{start_is, rest_units}
 

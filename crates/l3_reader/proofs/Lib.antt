@@ -10,5 +10,9 @@ pub mod Heads
 pub mod Moved
 pub mod Own
 pub mod WholeSteps
-pub mod FrameLoop
+pub mod LeftSteps
+pub mod FramesFrom
+pub mod Contents
+pub mod NextSteps
+pub mod InTurn
 pub mod StreamSteps

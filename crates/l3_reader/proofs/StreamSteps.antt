@@ -1,119 +1,91 @@
--- A whole stream, by its first header and its frames.
-use Rattle.std.proofs.Common.{◌≡◌, ℕ, zero, suc, ◌<◌, ◌≤◌, leb, List, [], ◌∷◌, ◌++◌, length, take, Option, Some, None, Result, Ok, Err, refl, sym, ap, subst, ◌∙◌, arith, length-append, inl, inr}
-use Rattle.std.specs.Prelude.{IfSome}
-use Rattle.std.proofs.lemmas.Bool.{le-leb, lt-leb}
-use Rattle.std.proofs.lemmas.List.{take_at}
-use Rattle.l3_bits.specs.Bits.{bits_of}
+-- A whole stream, as the frames that a reader gives in turn.
+use Rattle.std.proofs.Common.{◌≡◌, ℕ, zero, suc, ◌<◌, ◌≤◌, ◌+◌, List, [], ◌∷◌, ◌++◌, length, get_or, Option, Some, None, Result, Ok, Err, refl, sym, ap, subst, ◌∙◌, arith, length-append, rules}
+use Rattle.std.specs.Prelude.{All, IfSome}
+use Rattle.std.proofs.lemmas.Option.{IfSome_then}
+use Rattle.std.proofs.lemmas.List.Elements.{All-append, All-from_get_or}
 use Rattle.l3_base.specs.declared.settings.Settings.{Settings}
 use Rattle.l3_stream.specs.declared.fault.StreamFault.{StreamFault}
 use Rattle.l3_stream.specs.declared.fault.StreamFault.TheVariants as faults
 use Rattle.l3_stream.specs.declared.unit.ChosenFrame.{ChosenFrame}
-use Rattle.l3_stream.specs.Header.{settings_at}
-use Rattle.l3_stream.specs.Faults.{◌>>=◌, checked, or_fault}
-use Rattle.l3_stream.specs.Deviation.{frames_from, first_place, Content, reading_of}
-use Rattle.l3_stream.proofs.Steps.{bind_again, checked_again, or_fault_again}
-use Rattle.l3_reader.specs.Answer.{Explains}
-use Rattle.l3_reader.specs.Steps.{BeginsWith, NoHeader}
-use Rattle.l3_reader.proofs.UnitSteps.{bind_bad}
-use Rattle.l3_reader.proofs.MainSteps.{checked_bad}
-use Rattle.l3_reader.proofs.FrameSteps.{or_fault_none}
-use Rattle.l3_reader.proofs.WholeSteps.{explains_of, explains_by}
+use Rattle.l3_stream.specs.Frames.{IsCoded}
+use Rattle.l3_stream.specs.Deviation.{reading_of}
+use Rattle.l3_reader.specs.Answer.{IsFaultOf}
+use Rattle.l3_reader.specs.InTurn.{Progress, BeginsWithFrame, GivesFrame, HasEnded, HasGiven, HasStopped, LeavesBehind, bytes_by, nothing_read, settings_by, still_read}
+use Rattle.l3_reader.proofs.InTurn.{given_none, given_more, given_ended, given_refused, given_stopped, given_memory}
 
-abbrev pub contents : Option Settings → List ChosenFrame → Content
-contents st fs = record { settings = st; frames = fs }
+-- ---- coded frames
 
-reading_long : (left : List ℕ) → 0 < length left → reading_of 0 left ≡ Err (faults.TooLong 0)
-unfolding reading_of
-reading_long [] some = absurd (omega arith)
-reading_long (b ∷ left) some = refl
+one_get : (f : ChosenFrame) (i : ℕ) → get_or (f ∷ []) i f ≡ f
+one_get f zero = refl
+one_get f (suc zero) = refl
+one_get f (suc (suc i)) = refl
 
-reading_short : (limit : ℕ) (left : List ℕ) → 0 < limit → 0 < length left → length left < 4 → reading_of limit left ≡ Err (faults.ShortFrame 0)
-unfolding reading_of
-reading_short zero left room some few = absurd (omega arith)
-reading_short (suc limit) [] room some few = absurd (omega arith)
-reading_short (suc limit) (b ∷ left) room some few =
-    bind_bad (checked (leb 4 (length (b ∷ left))) (faults.ShortFrame 0)) _ (faults.ShortFrame 0) (checked_bad _ _ (lt-leb _ _ few))
+one_coded : (P : ChosenFrame → Type 0) (f : ChosenFrame) → P f → All P (f ∷ [])
+one_coded P f one = All-from_get_or P (f ∷ []) f (λ i lt. subst P (sym (one_get f i)) one)
 
-reading_refused : (limit : ℕ) (left : List ℕ) → 0 < limit → 4 ≤ length left → settings_at (bits_of (take 4 left)) ≡ None → reading_of limit left ≡ Err (faults.BadHeader 0)
-unfolding reading_of
-reading_refused zero left room long none = absurd (omega arith)
-reading_refused (suc limit) [] room long none = absurd (omega arith)
-reading_refused (suc limit) (b ∷ left) room long none =
-    bind_again (checked (leb 4 (length (b ∷ left))) (faults.ShortFrame 0)) _ tt (Err (faults.BadHeader 0)) (checked_again _ _ (le-leb _ _ long))
-    (bind_bad (or_fault (faults.BadHeader 0) (settings_at (bits_of (take 4 (b ∷ left))))) _ (faults.BadHeader 0) (or_fault_none (faults.BadHeader 0) _ none))
+none_coded : (P : ChosenFrame → Type 0) → All P []
+none_coded P = search rules
 
-reading_by : (limit : ℕ) (left : List ℕ) (st : Settings) (said : Result (List ChosenFrame) StreamFault) → 0 < limit → 4 ≤ length left → settings_at (bits_of (take 4 left)) ≡ Some st → frames_from st limit first_place left ≡ said
-    → reading_of limit left ≡ (said >>= λ frames. Ok (contents (Some st) frames))
-unfolding reading_of
-reading_by zero left st said room long is e = absurd (omega arith)
-reading_by (suc limit) [] st said room long is e = absurd (omega arith)
-reading_by (suc limit) (b ∷ left) st said room long is e =
-    bind_again (checked (leb 4 (length (b ∷ left))) (faults.ShortFrame 0)) _ tt (said >>= λ frames. Ok (contents (Some st) frames)) (checked_again _ _ (le-leb _ _ long))
-    (bind_again (or_fault (faults.BadHeader 0) (settings_at (bits_of (take 4 (b ∷ left))))) _ st (said >>= λ frames. Ok (contents (Some st) frames)) (or_fault_again _ _ st is)
-    (ap (λ (r : Result (List ChosenFrame) StreamFault). r >>= λ frames. Ok (contents (Some st) frames)) e))
+coded_under : (st : Settings) (o : Option Settings) (frames : List ChosenFrame) → (o ≡ None → frames ≡ []) → IfSome o (λ s. s ≡ st) → IfSome o (λ s. All (IsCoded s) frames) → All (IsCoded st) frames
+coded_under st None frames none same coded = subst (All (IsCoded st)) (sym (none refl)) (none_coded (IsCoded st))
+coded_under st (Some s) frames none same coded = subst (λ v. All (IsCoded v) frames) same coded
 
-reading_ok : (limit : ℕ) (left : List ℕ) (st : Settings) (fs : List ChosenFrame) → 0 < limit → 4 ≤ length left → settings_at (bits_of (take 4 left)) ≡ Some st → frames_from st limit first_place left ≡ Ok fs → reading_of limit left ≡ Ok (contents (Some st) fs)
-unfolding ◌>>=◌
-reading_ok limit left st fs room long is e = reading_by limit left st (Ok fs) room long is e
+pub coded_more : (p q : Progress) (f : ChosenFrame) (frames more : List ChosenFrame) → GivesFrame p q f → more ≡ frames ++ f ∷ [] → (p.settings ≡ None → frames ≡ []) → IfSome p.settings (λ s. All (IsCoded s) frames)
+    → IfSome q.settings (λ s. All (IsCoded s) more)
+coded_more p q f frames more gives is none coded =
+    let st = gives.settings in
+    let all : All (IsCoded st) (frames ++ f ∷ []) = All-append (IsCoded st) frames (f ∷ []) (coded_under st p.settings frames none gives.same coded) (one_coded (IsCoded st) f gives.coded) in
+    subst (λ (o : Option Settings). IfSome o (λ s. All (IsCoded s) more)) (sym gives.told) (subst (All (IsCoded st)) (sym is) all)
 
-reading_bad : (limit : ℕ) (left : List ℕ) (st : Settings) (fault : StreamFault) → 0 < limit → 4 ≤ length left → settings_at (bits_of (take 4 left)) ≡ Some st → frames_from st limit first_place left ≡ Err fault → reading_of limit left ≡ Err fault
-unfolding ◌>>=◌
-reading_bad limit left st fault room long is e = reading_by limit left st (Err fault) room long is e
+no_settings : (st : Settings) → (Some st) ≡ None → ⊥
+no_settings st e = cc
 
-reading_nothing : (limit : ℕ) (left : List ℕ) → left ≡ [] → reading_of limit left ≡ Ok (contents None [])
-unfolding reading_of
-reading_nothing zero left e = ap (reading_of 0) e
-reading_nothing (suc limit) left e = ap (reading_of (suc limit)) e
+pub some_settings : (p q : Progress) (f : ChosenFrame) → GivesFrame p q f → q.settings ≡ None → ⊥
+some_settings p q f gives none = let both = sym gives.told ∙ none in no_settings gives.settings both
 
--- ---- by what a source has left
+pub some_frames : (frames more : List ChosenFrame) (f : ChosenFrame) → more ≡ frames ++ f ∷ [] → more ≡ [] → ⊥
+some_frames frames more f is none = let both : frames ++ f ∷ [] ≡ [] = sym is ∙ none in absurd (omega (arith, ap length both, length-append frames (f ∷ [])))
 
-module _ (limit : ℕ) where
-  pub told_nothing : (old now : Option (List ℕ)) → IfSome old (λ left. (left ≡ []) × (now ≡ Some [])) → IfSome old (λ left. reading_of limit left ≡ Ok (contents None []))
-  told_nothing None now h = tt
-  told_nothing (Some left) now h = reading_nothing limit left h.0
+-- ---- faults
 
-  pub told_nothing_left : (old now : Option (List ℕ)) → IfSome old (λ left. (left ≡ []) × (now ≡ Some [])) → IfSome old (λ _. now ≡ Some [])
-  told_nothing_left None now h = tt
-  told_nothing_left (Some left) now h = h.1
+fault_unless : {A : Type 0} (fault : StreamFault) (said : Result A StreamFault) → ((fault ≡ faults.Read → ⊥) → said ≡ Err fault) → IsFaultOf fault said
+fault_unless (faults.BadHeader at) said h = h (λ e. cc)
+fault_unless (faults.ShortFrame at) said h = h (λ e. cc)
+fault_unless (faults.BadSide at) said h = h (λ e. cc)
+fault_unless (faults.BadBegin at) said h = h (λ e. cc)
+fault_unless (faults.BadCode bit) said h = h (λ e. cc)
+fault_unless (faults.WrongLength bit) said h = h (λ e. cc)
+fault_unless (faults.NotZero bit) said h = h (λ e. cc)
+fault_unless faults.Read said h = tt
+fault_unless faults.Memory said h = tt
+fault_unless (faults.TooLong at) said h = h (λ e. cc)
 
-  no_header : (left : List ℕ) (fault : StreamFault) → NoHeader fault limit 0 0 left → Explains fault (reading_of limit left)
-  no_header left fault (inl read) = subst (λ d. Explains d (reading_of limit left)) (sym read) tt
-  no_header left fault (inr (inl long)) =
-      let none : limit ≡ 0 = omega (arith, long.1) in
-      explains_of fault _ (ap (λ n. reading_of n left) none ∙ (reading_long left long.2 ∙ ap (λ d. Err d) (sym long.0)))
-  no_header left fault (inr (inr short)) = explains_of fault _ (reading_short limit left short.1 short.2 short.3 ∙ ap (λ d. Err d) (sym short.0))
+-- ---- what the bytes at the start are read as
 
-  pub told_no_header : (old : Option (List ℕ)) (fault : StreamFault) → IfSome old (λ left. NoHeader fault limit 0 0 left) → IfSome old (λ left. Explains fault (reading_of limit left))
-  told_no_header None fault h = tt
-  told_no_header (Some left) fault h = no_header left fault h
+module _ (limit : ℕ) (old mid now : Option (List ℕ)) (frames : List ChosenFrame) (p : Progress) (given : IfSome old (λ bytes. HasGiven limit bytes frames p mid)) where
+  pub so_far_more : (q : Progress) (f : ChosenFrame) (more : List ChosenFrame) → more ≡ frames ++ f ∷ [] → GivesFrame p q f → IfSome mid (λ left. BeginsWithFrame p q f left now) → IfSome old (λ bytes. HasGiven limit bytes more q now)
+  so_far_more q f more is gives begins =
+      IfSome_then old given (λ bytes h. subst (λ (l : List ChosenFrame). HasGiven limit bytes l q now) (sym is) (given_more limit bytes frames p mid h q f now gives begins))
 
-  module _ (some : 0 < limit) (header : List ℕ) (four : length header ≡ 4) (mid : Option (List ℕ)) where
-    long : (left : List ℕ) (b : BeginsWith left header mid) → 4 ≤ length left
-    long left b = omega (arith, ap length b.bytes_are, length-append header b.rest)
+  pub so_far_fault : (fault : StreamFault) → ((fault ≡ faults.Read → ⊥) → IfSome mid (λ left. still_read p left ≡ Err fault)) → IfSome old (λ bytes. IsFaultOf fault (reading_of limit bytes))
+  so_far_fault fault said = IfSome_then old given (λ bytes h. fault_unless fault (reading_of limit bytes) (λ not. given_refused limit bytes frames p mid h fault (said not)))
 
-    front : (left : List ℕ) (b : BeginsWith left header mid) → take 4 left ≡ header
-    front left b = ap (take 4) b.bytes_are ∙ take_at header b.rest 4 four
+  pub so_far_stopped : (fault : StreamFault) → (fault ≡ faults.Memory → ⊥) → IfSome mid (λ left. LeavesBehind fault (bytes_by (settings_by p.settings left) p.place.number) left now)
+      → IfSome old (λ bytes. HasStopped limit bytes fault now)
+  so_far_stopped fault not leaves = IfSome_then old given (λ bytes h. given_stopped limit bytes frames p mid h fault now not leaves)
 
-    pub told_refused : (old : Option (List ℕ)) → settings_at (bits_of header) ≡ None → IfSome old (λ left. BeginsWith left header mid) → IfSome old (λ left. reading_of limit left ≡ Err (faults.BadHeader 0))
-    told_refused None none b = tt
-    told_refused (Some left) none b = reading_refused limit left some (long left b) (ap (λ l. settings_at (bits_of l)) (front left b) ∙ none)
+  pub so_far_read : IfSome mid (λ left. HasEnded p left now) → IfSome old (λ bytes. reading_of limit bytes ≡ Ok (record { settings = p.settings; frames = frames }))
+  so_far_read ended = IfSome_then old given (λ bytes h. (given_ended limit bytes frames p mid h now ended).0)
 
-    module _ (st : Settings) (is : settings_at (bits_of header) ≡ Some st) where
-      pub told_frames : (old : Option (List ℕ)) (fs : List ChosenFrame) → IfSome old (λ left. BeginsWith left header mid) → IfSome mid (λ rest. frames_from st limit first_place (header ++ rest) ≡ Ok fs) → IfSome old (λ left. reading_of limit left ≡ Ok (contents (Some st) fs))
-      told_frames None fs b h = tt
-      told_frames (Some left) fs b h =
-          let begins : BeginsWith left header mid = b in
-          let found : frames_from st limit first_place (header ++ begins.rest) ≡ Ok fs = subst (λ m. IfSome m (λ rest. frames_from st limit first_place (header ++ rest) ≡ Ok fs)) begins.is h in
-          reading_ok limit left st fs some (long left begins) (ap (λ l. settings_at (bits_of l)) (front left begins) ∙ is) (ap (frames_from st limit first_place) begins.bytes_are ∙ found)
+  pub so_far_gone : IfSome mid (λ left. HasEnded p left now) → IfSome old (λ bytes. now ≡ Some [])
+  so_far_gone ended = IfSome_then old given (λ bytes h. (given_ended limit bytes frames p mid h now ended).1)
 
-      pub told_fault : (old : Option (List ℕ)) (fault : StreamFault) → IfSome old (λ left. BeginsWith left header mid) → IfSome mid (λ rest. Explains fault (frames_from st limit first_place (header ++ rest))) → IfSome old (λ left. Explains fault (reading_of limit left))
-      told_fault None fault b h = tt
-      told_fault (Some left) fault b h =
-          let begins : BeginsWith left header mid = b in
-          let found : Explains fault (frames_from st limit first_place (header ++ begins.rest)) = subst (λ m. IfSome m (λ rest. Explains fault (frames_from st limit first_place (header ++ rest)))) begins.is h in
-          explains_by fault (frames_from st limit first_place (header ++ begins.rest)) (reading_of limit left)
-          (λ e. reading_bad limit left st fault some (long left begins) (ap (λ l. settings_at (bits_of l)) (front left begins) ∙ is) (ap (frames_from st limit first_place) begins.bytes_are ∙ e)) found
+pub so_far_memory : (limit : ℕ) (old now : Option (List ℕ)) (frames : List ChosenFrame) (p : Progress) (fault : StreamFault) → fault ≡ faults.Memory → 0 < length frames → IfSome old (λ bytes. HasGiven limit bytes frames p now)
+    → IfSome old (λ bytes. HasStopped limit bytes fault now)
+so_far_memory limit old now frames p fault is some given =
+    IfSome_then old given (λ bytes h. subst (λ d. HasStopped limit bytes d now) (sym is) (given_memory limit bytes frames p now h some))
 
-      pub told_end : (old now : Option (List ℕ)) → IfSome old (λ left. BeginsWith left header mid) → IfSome mid (λ _. now ≡ Some []) → IfSome old (λ _. now ≡ Some [])
-      told_end None now b h = tt
-      told_end (Some left) now b h = let begins : BeginsWith left header mid = b in subst (λ m. IfSome m (λ _. now ≡ Some [])) begins.is h
+pub so_far_none : (limit : ℕ) (old : Option (List ℕ)) (p : Progress) (frames : List ChosenFrame) → p ≡ nothing_read limit → frames ≡ [] → IfSome old (λ bytes. HasGiven limit bytes frames p old)
+so_far_none limit None p frames start none = tt
+so_far_none limit (Some bytes) p frames start none =
+    subst (λ (l : List ChosenFrame). HasGiven limit bytes l p (Some bytes)) (sym none) (subst (λ (v : Progress). HasGiven limit bytes [] v (Some bytes)) (sym start) (given_none limit bytes))

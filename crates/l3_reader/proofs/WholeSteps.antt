@@ -1,6 +1,6 @@
 -- A frame from a source, and the frames from a place on.
-use Rattle.std.proofs.Common.{◌≡◌, ℕ, ◌+◌, ◌-◌, ◌<◌, ◌≤◌, leb, true, false, List, [], ◌++◌, length, take, drop, Option, Some, None, Result, Err, refl, sym, ap, subst, ◌∙◌, arith, append_assoc, length-append}
-use Rattle.std.specs.Prelude.{IfSome, IfNone, IfErr}
+use Rattle.std.proofs.Common.{◌≡◌, ℕ, ◌+◌, ◌-◌, ◌<◌, ◌≤◌, leb, true, false, List, [], ◌++◌, length, take, drop, Option, Some, None, Result, Ok, Err, refl, sym, ap, subst, ◌∙◌, arith, append_assoc, length-append}
+use Rattle.std.specs.Prelude.{IfSome, IfNone, IfErr, OnErr}
 use Rattle.std.proofs.lemmas.Bool.{le-leb, lt-leb}
 use Rattle.std.proofs.lemmas.List.{take_at, take_all, append-nil, length-drop, length-take-le}
 use borrow.Rule.Slice.PartMut.{put_mid}
@@ -17,37 +17,39 @@ use Rattle.l3_stream.specs.Faults.{checked}
 use Rattle.l3_stream.specs.Deviation.{Place, head_at}
 use Rattle.l3_stream.proofs.Steps.{bind_again, checked_again}
 use Rattle.l3_stream.proofs.Locality.{frame_is_local}
-use Rattle.l3_reader.specs.Answer.{Explains}
-use Rattle.l3_reader.specs.Steps.{frame_at, ReadsFront}
+use Rattle.l3_reader.specs.Answer.{IsFaultOf}
+use Rattle.l3_reader.specs.InTurn.{frame_at}
+use Rattle.l3_reader.specs.Steps.{ReadsFront}
 use Rattle.l3_reader.proofs.UnitSteps.{bind_bad}
 use Rattle.l3_reader.proofs.MainSteps.{checked_bad}
 use Rattle.l3_reader.proofs.Loops.{length-put_mid}
 
 -- ---- faults
 
-pub explains_of : {A : Type 0} (fault : StreamFault) (said : Result A StreamFault) → said ≡ Err fault → Explains fault said
-explains_of (faults.BadHeader at) said e = e
-explains_of (faults.ShortFrame at) said e = e
-explains_of (faults.BadSide at) said e = e
-explains_of (faults.BadBegin at) said e = e
-explains_of (faults.BadCode bit) said e = e
-explains_of (faults.WrongLength bit) said e = e
-explains_of (faults.NotZero bit) said e = e
-explains_of faults.Read said e = tt
-explains_of faults.Memory said e = tt
-explains_of (faults.TooLong at) said e = e
+pub fault_of : {A : Type 0} (fault : StreamFault) (said : Result A StreamFault) → said ≡ Err fault → IsFaultOf fault said
+fault_of (faults.BadHeader at) said e = e
+fault_of (faults.ShortFrame at) said e = e
+fault_of (faults.BadSide at) said e = e
+fault_of (faults.BadBegin at) said e = e
+fault_of (faults.BadCode bit) said e = e
+fault_of (faults.WrongLength bit) said e = e
+fault_of (faults.NotZero bit) said e = e
+fault_of faults.Read said e = tt
+fault_of faults.Memory said e = tt
+fault_of (faults.TooLong at) said e = e
 
-pub explains_by : {A B : Type 0} (fault : StreamFault) (a : Result A StreamFault) (b : Result B StreamFault) → (a ≡ Err fault → b ≡ Err fault) → Explains fault a → Explains fault b
-explains_by (faults.BadHeader at) a b f e = f e
-explains_by (faults.ShortFrame at) a b f e = f e
-explains_by (faults.BadSide at) a b f e = f e
-explains_by (faults.BadBegin at) a b f e = f e
-explains_by (faults.BadCode bit) a b f e = f e
-explains_by (faults.WrongLength bit) a b f e = f e
-explains_by (faults.NotZero bit) a b f e = f e
-explains_by faults.Read a b f e = tt
-explains_by faults.Memory a b f e = tt
-explains_by (faults.TooLong at) a b f e = f e
+-- what it is of, where it is no failed read and no want of memory
+pub fault_said : {A : Type 0} (fault : StreamFault) (said : Result A StreamFault) → IsFaultOf fault said → (fault ≡ faults.Read → ⊥) → (fault ≡ faults.Memory → ⊥) → said ≡ Err fault
+fault_said (faults.BadHeader at) said e read memory = e
+fault_said (faults.ShortFrame at) said e read memory = e
+fault_said (faults.BadSide at) said e read memory = e
+fault_said (faults.BadBegin at) said e read memory = e
+fault_said (faults.BadCode bit) said e read memory = e
+fault_said (faults.WrongLength bit) said e read memory = e
+fault_said (faults.NotZero bit) said e read memory = e
+fault_said faults.Read said e read memory = absurd (read refl)
+fault_said faults.Memory said e read memory = absurd (memory refl)
+fault_said (faults.TooLong at) said e read memory = e
 
 -- ---- a frame
 
@@ -133,13 +135,25 @@ buffer_is zeros header body size big four room =
     take-put_mid 4 (size - 4) (header ++ drop 4 zeros) body size (omega arith) (omega (arith, length-append header (drop 4 zeros))) ∙ ap (λ l. l ++ body) (take_at header (drop 4 zeros) 4 four)
 
 -- the fault of a result that is an error
-pub refused_by : {A B : Type 0} (r : Result A StreamFault) (fault : StreamFault) (old : Option (List ℕ)) (said : List ℕ → Result B StreamFault) → r ≡ Err fault → IfSome old (λ left. Explains fault (said left))
-    → IfErr r (λ d. IfSome old (λ left. Explains d (said left)))
-refused_by r fault old said is h = subst (λ q. IfErr q (λ d. IfSome old (λ left. Explains d (said left)))) (sym is) h
+pub refused_by : {A B : Type 0} (r : Result A StreamFault) (fault : StreamFault) (old : Option (List ℕ)) (said : List ℕ → Result B StreamFault) → r ≡ Err fault → IfSome old (λ left. IsFaultOf fault (said left))
+    → IfErr r (λ d. IfSome old (λ left. IsFaultOf d (said left)))
+refused_by r fault old said is h = subst (λ q. IfErr q (λ d. IfSome old (λ left. IsFaultOf d (said left)))) (sym is) h
 
-pub told_explains : {B : Type 0} (fault : StreamFault) (old : Option (List ℕ)) (said : List ℕ → Result B StreamFault) → IfSome old (λ left. said left ≡ Err fault) → IfSome old (λ left. Explains fault (said left))
-told_explains fault None said h = tt
-told_explains fault (Some left) said h = explains_of fault (said left) h
+-- what holds of the fault of an answer that is one
+pub refused : {A : Type 0} (r : Result A StreamFault) (fault : StreamFault) (P : StreamFault → Type 0) → r ≡ Err fault → P fault → IfErr r P
+refused r fault P is h = subst (λ q. IfErr q P) (sym is) h
+
+pub at_refused : {A : Type 0} (r : Result A StreamFault) (P : Type 0) → P → OnErr r P
+at_refused (Ok x) P h = tt
+at_refused (Err fault) P h = h
+
+-- an answer that is another fault
+pub other_fault : {A : Type 0} (r : Result A StreamFault) (fault other : StreamFault) → r ≡ Err fault → (fault ≡ other → ⊥) → r ≡ Err other → ⊥
+other_fault r fault other is not e = let both : fault ≡ other = cc in not both
+
+pub told_fault_of : {B : Type 0} (fault : StreamFault) (old : Option (List ℕ)) (said : List ℕ → Result B StreamFault) → IfSome old (λ left. said left ≡ Err fault) → IfSome old (λ left. IsFaultOf fault (said left))
+told_fault_of fault None said h = tt
+told_fault_of fault (Some left) said h = fault_of fault (said left) h
 
 pub buffer_whole : (zeros written header body : List ℕ) (size : ℕ) → 4 ≤ size → written ≡ header → length header ≡ 4 → length body ≡ size - 4 → take size (put_mid 4 (size - 4) (written ++ drop 4 zeros) body) ≡ header ++ body
 buffer_whole zeros written header body size big is four room = buffer_is zeros written body size big (ap length is ∙ four) room ∙ ap (λ l. l ++ body) is
@@ -151,8 +165,8 @@ buffer_room zeros written header body size all small big is four room =
     omega (arith, length-put_mid 4 (size - 4) (written ++ drop 4 zeros) body (omega arith) room)
 
 -- what stands in an option
-pub if_none : (o : Option (List ℕ)) (P : Type 0) → o ≡ None → IfNone o P → P
+pub if_none : {X : Type 0} (o : Option X) (P : Type 0) → o ≡ None → IfNone o P → P
 if_none o P is h = subst (λ x. IfNone x P) is h
 
-pub if_some : (o : Option (List ℕ)) (x : List ℕ) (P : List ℕ → Type 0) → o ≡ Some x → IfSome o P → P x
+pub if_some : {X : Type 0} (o : Option X) (x : X) (P : X → Type 0) → o ≡ Some x → IfSome o P → P x
 if_some o x P is h = subst (λ y. IfSome y P) is h

@@ -6,10 +6,10 @@ use Rattle.l3_stream.specs.Deviation.{Content}
 use Rattle.l3_reader.specs.declared.stream.Stream.{Stream}
 
 -- a failed read and want of memory say nothing of the bytes; any other fault is theirs
-abbrev pub Explains : {A : Type 0} → StreamFault → Result A StreamFault → Type 0
-Explains faults.Read said = ⊤
-Explains faults.Memory said = ⊤
-Explains fault said = said ≡ Err fault
+abbrev pub IsFaultOf : {A : Type 0} → StreamFault → Result A StreamFault → Type 0
+IsFaultOf faults.Read said = ⊤
+IsFaultOf faults.Memory said = ⊤
+IsFaultOf fault said = said ≡ Err fault
 
 -- the settings and the frames
 abbrev pub content_in : Stream → Content

@@ -1,24 +1,32 @@
 -- What the steps of the reader give.
-use Rattle.std.specs.Prelude.{◌≡◌, ℕ, ◌+◌, ◌-◌, ◌*◌, ◌^◌, ◌<◌, ◌≤◌, Bool, List, [], ◌++◌, length, take, drop, slice_index, nat_lt, if◌then◌else◌, ◌⊎◌, Option, Some, Result, Ok, Err}
+use Rattle.std.specs.Prelude.{◌≡◌, ℕ, ◌+◌, ◌-◌, ◌*◌, ◌^◌, ◌<◌, ◌≤◌, Bool, List, [], ◌++◌, length, take, drop, slice_index, nat_lt, if◌then◌else◌, ◌⊎◌, ⊤, Option, None, Some, Result, Ok, Err}
 use Rattle.l3_bits.specs.Bits.{bits_of}
 use Rattle.l3_base.specs.declared.settings.Settings.{Settings}
 use Rattle.l3_base.specs.Lengths.{slots_before, slot_bytes_of}
 use Rattle.l3_stream.specs.declared.fault.StreamFault.{StreamFault}
 use Rattle.l3_stream.specs.declared.fault.StreamFault.TheVariants as faults
 use Rattle.l3_stream.specs.declared.unit.Unit.{Unit}
-use Rattle.l3_stream.specs.declared.unit.ChosenFrame.{ChosenFrame}
 use Rattle.l3_stream.specs.Units.{edge}
-use Rattle.l3_stream.specs.Frames.{placed}
 use Rattle.l3_stream.specs.Tape.{start_of}
-use Rattle.l3_stream.specs.Faults.{◌>>=◌}
-use Rattle.l3_stream.specs.Deviation.{Place, head_at, slot_at, main_at, next_place}
+use Rattle.l3_stream.specs.Deviation.{Place, first_place}
 use Rattle.l3_reader.specs.declared.quantised.Regions.{Regions}
 use Rattle.l3_reader.specs.declared.tape.Tape.{Tape}
+use Rattle.l3_reader.specs.declared.standing.Standing.{Standing}
+use Rattle.l3_reader.specs.InTurn.{Progress}
 
 -- an answer, made of the value where there is one
 abbrev pub gives : {A B : Type 0} → (A → B) → Result A StreamFault → Result B StreamFault
 gives made (Ok x) = Ok (made x)
 gives made (Err fault) = Err fault
+
+-- a fault of a frame whose header is the right one and whose bytes are there, or of the bits around its codes
+abbrev pub IsWithin : StreamFault → Type 0
+IsWithin (faults.BadSide at) = ⊤
+IsWithin (faults.BadBegin at) = ⊤
+IsWithin (faults.BadCode bit) = ⊤
+IsWithin (faults.WrongLength bit) = ⊤
+IsWithin (faults.NotZero bit) = ⊤
+IsWithin other = ⊥
 
 -- the regions of a unit
 abbrev pub regions_of : Settings → Unit → Regions
@@ -27,13 +35,6 @@ regions_of st u = record { tables = u.tables; second = edge st (u.region0 + 1); 
 -- the table of the pair that begins at a line
 unfoldable pub table_by : Regions → ℕ → ℕ
 table_by r line = slice_index r.tables (if nat_lt line r.second then 0 else if nat_lt line r.third then 1 else 2)
-
--- a frame, and where reading stands behind it
-unfoldable pub frame_at : Settings → Place → List ℕ → Result (ChosenFrame × Place) StreamFault
-frame_at st p bytes = do
-  side ← head_at st p bytes
-  units ← main_at st p side (slot_at st p.number bytes)
-  Ok (record { begin = side.0; units = placed st.channels units }, next_place st p side (slot_at st p.number bytes))
 
 -- where reading stands, by what is kept of the tape
 abbrev pub place_of : Tape → Place
@@ -50,6 +51,30 @@ pub record IsKept (st : Settings) (t : Tape) : Type 0 where
   pub begun : 8 * t.base ≤ t.end
   pub near : t.end < 8 * t.base + 8
   pub within : t.end ≤ 8 * (t.base + t.filled)
+
+-- the codes so far end within the bytes kept
+pub record HasRest (t : Tape) : Type 0 where
+  pub room : length t.bytes ≡ 4096
+  pub few : t.filled ≤ 1931
+  pub small : t.base + t.filled < 2 ^ 60
+  pub begun : 8 * t.base ≤ t.end
+  pub within : t.end ≤ 8 * (t.base + t.filled)
+
+-- the tape of a reader with these settings, or of one that has read no frame
+abbrev pub IsTapeUnder : Option Settings → Tape → Type 0
+IsTapeUnder None t = (place_of t ≡ first_place) × ((st : Settings) → IsKept st t)
+IsTapeUnder (Some st) t = IsKept st t
+
+-- what always holds of where a reader stands
+pub record IsSound (s : Standing) : Type 0 where
+  pub limit : s.limit ≤ 16777216
+  pub few : s.tape.number ≤ s.limit
+  pub rest : HasRest s.tape
+  pub tape : IsTapeUnder s.settings s.tape
+
+-- how far a reader has come, by where it stands and the fault at which it has stopped
+abbrev pub progress_of : Standing → Option StreamFault → Progress
+progress_of s fault = record { limit = s.limit; settings = s.settings; place = place_of s.tape; fault = fault }
 
 -- the bits of a slot of so many bytes that stands behind the bytes kept
 abbrev pub slot_of : Tape → ℕ → List Bool

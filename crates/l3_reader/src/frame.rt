@@ -1,12 +1,14 @@
 //! One frame: its side information, and its main data from the tape.
 
-ghost use Rattle.std.specs.Prelude.{◌≡◌, ◌≤◌, ◌<◌, ◌+◌, ◌*◌, ◌^◌, true, Err, IfOk, OnOk, length, take};
+ghost use Rattle.std.specs.Prelude.{◌≡◌, ◌≤◌, ◌<◌, ◌+◌, ◌*◌, ◌^◌, true, IfErr, IfOk, OnErr, OnOk, length, take};
 ghost use Rattle.l3_bits.specs.Bits.{bits_of};
+ghost use Rattle.l3_base.specs.declared.settings.Settings.{Settings};
 ghost use Rattle.l3_base.specs.Lengths.{frame_bytes_of};
 ghost use Rattle.l3_stream.specs.Fields.{same};
 ghost use Rattle.l3_stream.specs.Frames.{IsCoded};
 ghost use Rattle.l3_stream.specs.Header.{header_at, settings_at};
-ghost use Rattle.l3_reader.specs.Steps.{IsKept, frame_at, gives, place_of};
+ghost use Rattle.l3_reader.specs.InTurn.{frame_at};
+ghost use Rattle.l3_reader.specs.Steps.{IsKept, IsWithin, gives, place_of};
 
 use crate::StreamFault;
 use crate::main_data::read_main;
@@ -45,8 +47,10 @@ pub(crate) fn read_frame(
     requires longest { length bytes.now ≤ 1441 }
     requires header { same (bits_of (take 4 bytes.now)) (header_at settings.now tape.old.number) ≡ true }
     ensures value { frame_at settings.now (place_of tape.old) bytes.now ≡ gives (λ frame. (frame, place_of tape.new)) result }
-    ensures own { result ≡ Err StreamFault.Read → ⊥ }
+    ensures own { IfErr result IsWithin }
     ensures kept { OnOk result (IsKept settings.now tape.new) }
+    ensures still { OnErr result ((st : Settings) → IsKept st tape.old → IsKept st tape.new) }
+    ensures same { OnErr result (place_of tape.new ≡ place_of tape.old) }
     ensures number { OnOk result (tape.new.number ≡ tape.old.number + 1) }
     ensures coded { IfOk result (λ frame. IsCoded settings.now frame) }
 {

@@ -1,13 +1,15 @@
-//! The frames of a stream, one after the other from a source.
+//! A frame of a stream, from a source.
 
-ghost use Rattle.std.specs.Prelude.{◌≡◌, ◌≤◌, ◌<◌, ◌+◌, ◌-◌, ◌*◌, ◌^◌, ◌++◌, [], ◌∷◌, Ok, Err, Some, All, IfOk, IfErr, IfSome, IfNone, OnOk, drop, length, replicate};
+ghost use Rattle.std.specs.Prelude.{◌≡◌, ◌≢◌, ℕ, List, ◌≤◌, ◌<◌, ◌+◌, ◌-◌, ◌*◌, ◌^◌, ◌++◌, [], Ok, Err, Some, IfOk, IfErr, IfSome, IfNone, OnOk, OnErr, drop, length, replicate};
+ghost use Rattle.std.specs.Io.KnownBytes.{Consumes};
+ghost use Rattle.l3_base.specs.declared.settings.Settings.{Settings};
 ghost use Rattle.l3_base.specs.Lengths.{frame_bytes_of};
-ghost use Rattle.l3_io.specs.Causes.{Rose};
+ghost use Rattle.l3_io.specs.Causes.{count_after};
 ghost use Rattle.l3_stream.specs.Frames.{IsCoded};
 ghost use Rattle.l3_stream.specs.Faults.{clear};
-ghost use Rattle.l3_stream.specs.Deviation.{first_place, frames_from};
-ghost use Rattle.l3_reader.specs.Answer.{Explains};
-ghost use Rattle.l3_reader.specs.Steps.{BeginsWith, IsKept, NoHeader, ReadsFront, frame_at, place_of};
+ghost use Rattle.l3_reader.specs.Answer.{IsFaultOf};
+ghost use Rattle.l3_reader.specs.InTurn.{LeavesBehind, frame_at};
+ghost use Rattle.l3_reader.specs.Steps.{BeginsWith, HasRest, IsKept, NoHeader, ReadsFront, place_of};
 
 use crate::StreamFault;
 use crate::frame::{is_header, read_frame};
@@ -16,7 +18,6 @@ use crate::tape::Tape;
 use l3_base::Settings;
 use l3_io::{Source, read_full};
 use l3_stream::ChosenFrame;
-use std::alloc::Global;
 
 // Bytes of the longest frame: 320 kbit/s at 32000 Hz, and the byte of padding.
 const FRAME_LIMIT: usize = 1441;
@@ -36,8 +37,10 @@ fn read_front<S: Source>(source: &mut S, buf: &mut [u8]) -> Result<usize, Stream
     ensures content { IfOk result (λ n. IfSome (S.left source.old) (λ left. ReadsFront left n buf.new (S.left source.new))) }
     ensures bound { IfOk result (λ n. n ≤ length buf.new) }
     ensures own { IfErr result (λ fault. fault ≡ StreamFault.Read) }
+    ensures gone { OnErr result ((bytes : List ℕ) × (length bytes < length buf.new) × Consumes (S.left source.old) (S.left source.new) bytes) }
+    ensures steady { OnOk result (S.faults source.new ≡ S.faults source.old) }
     ensures later { S.faults source.old ≤ S.faults source.new }
-    ensures read { result ≡ Err StreamFault.Read → Rose (S.faults source.old) (S.faults source.new) }
+    ensures read { result ≡ Err StreamFault.Read → S.faults source.new ≡ count_after (S.faults source.old) }
 {
     match read_full(source, buf) {
         Ok(count) => Ok(count),
@@ -57,8 +60,11 @@ pub(crate) fn read_header_bytes<S: Source>(
     ensures few { IfOk result (λ header. IfSome header (λ bytes. number < limit)) }
     ensures four { IfOk result (λ header. IfSome header (λ bytes. length bytes ≡ 4)) }
     ensures fault { IfErr result (λ fault. IfSome (S.left source.old) (λ left. NoHeader fault limit number at left)) }
+    ensures gone { IfErr result (λ fault. IfSome (S.left source.old) (λ left. LeavesBehind fault 4 left (S.left source.new))) }
+    ensures memory { result ≢ Err StreamFault.Memory }
+    ensures steady { result ≢ Err StreamFault.Read → S.faults source.new ≡ S.faults source.old }
     ensures later { S.faults source.old ≤ S.faults source.new }
-    ensures read { result ≡ Err StreamFault.Read → Rose (S.faults source.old) (S.faults source.new) }
+    ensures read { result ≡ Err StreamFault.Read → S.faults source.new ≡ count_after (S.faults source.old) }
 {
     let mut header = [0; HEADER_BYTES];
     let count = read_front(source, &mut header)?;
@@ -75,7 +81,7 @@ pub(crate) fn read_header_bytes<S: Source>(
 }
 
 // Reads the frame that begins with this header, and goes on behind it.
-fn read_whole<S: Source>(
+pub(crate) fn read_whole<S: Source>(
     source: &mut S,
     settings: &Settings,
     tape: &mut Tape,
@@ -84,13 +90,19 @@ fn read_whole<S: Source>(
     requires kept { IsKept settings.now tape.old }
     requires number { tape.old.number < 2 ^ 24 }
     ensures content { IfOk result (λ frame. IfSome (S.left source.old) (λ left. frame_at settings.now (place_of tape.old) (header.now ++ left) ≡ Ok (frame, place_of tape.new))) }
-    ensures fault { IfErr result (λ fault. IfSome (S.left source.old) (λ left. Explains fault (frame_at settings.now (place_of tape.old) (header.now ++ left)))) }
+    ensures fault { IfErr result (λ fault. IfSome (S.left source.old) (λ left. IsFaultOf fault (frame_at settings.now (place_of tape.old) (header.now ++ left)))) }
+    ensures gone { IfErr result (λ fault. IfSome (S.left source.old) (λ left.
+        LeavesBehind fault (frame_bytes_of settings.now tape.old.number) (header.now ++ left) (S.left source.new))) }
+    ensures memory { result ≢ Err StreamFault.Memory }
+    ensures steady { result ≢ Err StreamFault.Read → S.faults source.new ≡ S.faults source.old }
     ensures rest { OnOk result (IfSome (S.left source.old) (λ left. S.left source.new ≡ Some (drop (frame_bytes_of settings.now tape.old.number) (header.now ++ left)))) }
     ensures kept { OnOk result (IsKept settings.now tape.new) }
+    ensures still { OnErr result ((st : Settings) → IsKept st tape.old → IsKept st tape.new) }
+    ensures same { OnErr result (place_of tape.new ≡ place_of tape.old) }
     ensures number { OnOk result (tape.new.number ≡ tape.old.number + 1) }
     ensures coded { IfOk result (λ frame. IsCoded settings.now frame) }
     ensures later { S.faults source.old ≤ S.faults source.new }
-    ensures read { result ≡ Err StreamFault.Read → Rose (S.faults source.old) (S.faults source.new) }
+    ensures read { result ≡ Err StreamFault.Read → S.faults source.new ≡ count_after (S.faults source.old) }
 {
     if !is_header(settings, tape.number, header) {
         return Err(StreamFault::BadHeader(tape.at));
@@ -107,58 +119,11 @@ fn read_whole<S: Source>(
 }
 
 // Whether the tape is 0 behind the codes so far.
-fn test_rest(settings: &Settings, tape: &Tape) -> Result<(), StreamFault>
-    requires kept { IsKept settings.now tape.now }
+pub(crate) fn test_rest(tape: &Tape) -> Result<(), StreamFault>
+    requires rest { HasRest tape.now }
     ensures { result ≡ clear tape.now.end (place_of tape.now).rest }
 {
     let first = 8 * tape.base;
     let bits = 8 * tape.filled as u64;
     test_zeros(first, &tape.bytes[..tape.filled], tape.end - first, bits)
-}
-
-// Puts a frame behind the others.
-fn keep(frames: &mut Vec<ChosenFrame>, frame: ChosenFrame) -> Result<(), StreamFault>
-    ensures kept { OnOk result (frames.new.items ≡ frames.old.items ++ frame ∷ []) }
-    ensures memory { IfErr result (λ fault. fault ≡ StreamFault.Memory) }
-{
-    match frames.push(frame) {
-        Ok(()) => Ok(()),
-        Err(_) => Err(StreamFault::Memory),
-    }
-}
-
-// Reads the frames of which the first begins with this header, to the end of the source.
-pub(crate) fn read_frames<S: Source>(
-    alloc: Global,
-    limit: u32,
-    source: &mut S,
-    settings: &Settings,
-    header: [u8; HEADER_BYTES],
-) -> Result<Vec<ChosenFrame>, StreamFault>
-    requires limit { limit ≤ 16777216 }
-    requires some { 0 < limit }
-    ensures content { IfOk result (λ frames. IfSome (S.left source.old) (λ left. frames_from settings.now limit first_place (header ++ left) ≡ Ok frames.items)) }
-    ensures fault { IfErr result (λ fault. IfSome (S.left source.old) (λ left. Explains fault (frames_from settings.now limit first_place (header ++ left)))) }
-    ensures rest { OnOk result (IfSome (S.left source.old) (λ _. S.left source.new ≡ Some [])) }
-    ensures few { IfOk result (λ frames. length frames.items ≤ limit) }
-    ensures some { IfOk result (λ frames. 0 < length frames.items) }
-    ensures coded { IfOk result (λ frames. All (IsCoded settings.now) frames.items) }
-    ensures later { S.faults source.old ≤ S.faults source.new }
-    ensures read { result ≡ Err StreamFault.Read → Rose (S.faults source.old) (S.faults source.new) }
-{
-    let mut frames = Vec::new(alloc);
-    let mut tape = Tape::start();
-    let mut header = header;
-    loop {
-        let frame = read_whole(source, settings, &mut tape, &header)?;
-        keep(&mut frames, frame)?;
-        let next = read_header_bytes(source, u64::from(limit), tape.number, tape.at)?;
-        match next {
-            None => {
-                test_rest(settings, &tape)?;
-                return Ok(frames);
-            },
-            Some(bytes) => header = bytes,
-        }
-    }
 }

@@ -6,13 +6,16 @@
 #![tactic(auto)]
 
 mod frame;
+mod frame_reader;
 mod frames;
 mod main_data;
 mod quantised;
+mod standing;
 mod stream;
 mod tape;
 mod units;
 
+pub use frame_reader::FrameReader;
 pub use l3_stream::StreamFault;
 pub use stream::{Stream, read_stream};
 

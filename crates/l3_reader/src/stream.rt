@@ -1,14 +1,13 @@
-//! A whole stream: its first header, and the frames under the settings that it tells.
+//! A whole stream: the frames that a reader gives, one after the other, in a list.
 
-ghost use Rattle.std.specs.Prelude.{◌≡◌, ◌≤◌, ◌^◌, [], Ok, Err, None, Some, All, IfOk, IfErr, OnOk, IfSome, length};
-ghost use Rattle.l3_io.specs.Causes.{Rose};
+ghost use Rattle.std.specs.Prelude.{◌≡◌, ◌≢◌, ◌≤◌, ◌^◌, ◌++◌, ◌∷◌, [], Ok, Err, None, Some, All, IfOk, IfErr, OnOk, IfSome, length};
+ghost use Rattle.l3_io.specs.Causes.{count_after};
 ghost use Rattle.l3_stream.specs.Frames.{IsCoded};
 ghost use Rattle.l3_stream.specs.Deviation.{reading_of};
-ghost use Rattle.l3_reader.specs.Answer.{Explains, content_in};
+ghost use Rattle.l3_reader.specs.Answer.{IsFaultOf, content_in};
+ghost use Rattle.l3_reader.specs.InTurn.{HasStopped};
 
-use crate::StreamFault;
-use crate::frame::first_settings;
-use crate::frames::{read_frames, read_header_bytes};
+use crate::{FrameReader, StreamFault};
 use l3_base::Settings;
 use l3_io::Source;
 use l3_stream::ChosenFrame;
@@ -23,6 +22,17 @@ pub struct Stream {
     pub frames: Vec<ChosenFrame>,
 }
 
+// Puts a frame behind the others.
+fn keep(frames: &mut Vec<ChosenFrame>, frame: ChosenFrame) -> Result<(), StreamFault>
+    ensures kept { OnOk result (frames.new.items ≡ frames.old.items ++ frame ∷ []) }
+    ensures memory { IfErr result (λ fault. fault ≡ StreamFault.Memory) }
+{
+    match frames.push(frame) {
+        Ok(()) => Ok(()),
+        Err(_) => Err(StreamFault::Memory),
+    }
+}
+
 /// Reads a stream of at most `limit` frames to its end.
 ///
 /// The frames are tried in order by the rules of reading, and the first one that refuses decides: each fault but `Read` and `Memory`
@@ -34,8 +44,9 @@ pub fn read_stream<S: Source>(
 ) -> Result<Stream, StreamFault>
     requires { limit ≤ 16777216 }
     ensures content { IfOk result (λ stream. IfSome (S.left source.old) (λ left. reading_of limit left ≡ Ok (content_in stream))) }
-    ensures fault { IfErr result (λ fault. IfSome (S.left source.old) (λ left. Explains fault (reading_of limit left))) }
+    ensures fault { IfErr result (λ fault. IfSome (S.left source.old) (λ left. IsFaultOf fault (reading_of limit left))) }
     ensures rest { OnOk result (IfSome (S.left source.old) (λ _. S.left source.new ≡ Some [])) }
+    ensures stopped { IfErr result (λ fault. IfSome (S.left source.old) (λ left. HasStopped limit left fault (S.left source.new))) }
 
     // Whatever the source tells:
     ensures few { IfOk result (λ stream. length stream.frames.items ≤ limit) }
@@ -43,25 +54,16 @@ pub fn read_stream<S: Source>(
     ensures none { IfOk result (λ stream. stream.settings ≡ None → stream.frames.items ≡ []) }
     ensures empty { IfOk result (λ stream. stream.frames.items ≡ [] → stream.settings ≡ None) }
     ensures later { S.faults source.old ≤ S.faults source.new }
-    ensures read { result ≡ Err StreamFault.Read → Rose (S.faults source.old) (S.faults source.new) }
+    ensures read { result ≡ Err StreamFault.Read → S.faults source.new ≡ count_after (S.faults source.old) }
+    ensures steady { result ≢ Err StreamFault.Read → S.faults source.new ≡ S.faults source.old }
 {
-    let first = read_header_bytes(source, u64::from(limit), 0, 0)?;
-    let header = match first {
-        None => {
-            return Ok(Stream {
-                settings: None,
-                frames: Vec::new(alloc),
-            });
-        },
-        Some(header) => header,
-    };
-    let settings = match first_settings(&header) {
-        None => return Err(StreamFault::BadHeader(0)),
-        Some(settings) => settings,
-    };
-    let frames = read_frames(alloc, limit, source, &settings, header)?;
+    let mut frames = Vec::new(alloc);
+    let mut reader = FrameReader::new(limit);
+    while let Some(frame) = reader.next(source)? {
+        keep(&mut frames, frame)?;
+    }
     Ok(Stream {
-        settings: Some(settings),
+        settings: reader.settings(),
         frames,
     })
 }

@@ -3,7 +3,7 @@
 ghost use Rattle.std.specs.Prelude.{◌≡◌, ◌≤◌, ◌<◌, ◌+◌, ◌-◌, ◌*◌, ◌/◌, ◌^◌, drop, length, replicate, take};
 ghost use Rattle.l3_base.specs.declared.settings.Settings.{Settings};
 ghost use Rattle.l3_stream.specs.Deviation.{first_place};
-ghost use Rattle.l3_reader.specs.Steps.{IsKept, place_of};
+ghost use Rattle.l3_reader.specs.Steps.{HasRest, IsKept, place_of};
 
 // Bytes of the tape that are kept: at most 511 before a slot, that slot and the next one, each of at most 1420.
 pub(crate) const KEPT_BYTES: usize = 4096;
@@ -38,6 +38,7 @@ impl Tape {
     pub(crate) fn start() -> Tape
         ensures place { place_of result ≡ first_place }
         ensures kept { (st : Settings) → IsKept st result }
+        ensures rest { HasRest result }
     {
         let bytes = no_bytes();
         Tape {

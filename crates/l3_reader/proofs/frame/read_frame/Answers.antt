@@ -2,16 +2,20 @@ use Rattle.std.proofs.Common.{◌≡◌, ◌-◌, ◌<◌, ◌^◌, ℕ, List, l
 use Rattle.std.specs.Prelude.{All}
 use Rattle.std.proofs.lemmas.List.{length-take-le, length-drop}
 use Rattle.std.proofs.lemmas.List.Elements.{All-from_get_or}
+use Rattle.l3_base.specs.declared.settings.Settings.{Settings}
 use Rattle.l3_base.specs.Lengths.{slot_bytes_of, frame_bytes_of}
 use Rattle.l3_stream.specs.declared.fault.StreamFault.{StreamFault}
 use Rattle.l3_stream.specs.declared.unit.Unit.{Unit}
 use Rattle.l3_stream.specs.declared.unit.ChosenFrame.{ChosenFrame}
 use Rattle.l3_stream.specs.Frames.{units_of, placed, IsCoded}
 use Rattle.l3_stream.specs.Deviation.{Place, main_at, slot_at, next_place}
-use Rattle.l3_reader.specs.Steps.{frame_at, place_of, slot_of}
+use Rattle.l3_reader.specs.InTurn.{frame_at}
+use Rattle.l3_reader.specs.Steps.{place_of, slot_of}
 use Rattle.l3_reader.proofs.UnitSteps.{gives_err}
 use Rattle.l3_reader.proofs.FrameSteps.{frame_bad_side, frame_bad_main, frame_read, frame_coded, slot_part, side_part, appended_place, appended_kept, appended_slot, kept_place, passed_place, passed_kept, end_within, frame_made}
-use Rattle.l3_reader.proofs.Own.{own_frame, own_fault, not_read}
+use Rattle.l3_reader.specs.Steps.{IsKept, IsWithin}
+use Rattle.l3_reader.proofs.Own.{own_main, own_fault}
+use Rattle.l3_reader.proofs.WholeSteps.{refused, at_refused}
 use Rattle.l3_reader.proofs.frame.read_frame.Goals as goal
 use Rattle.l3_reader.proofs.frame.read_frame.Goals.{After-from_residual}
 
@@ -27,8 +31,8 @@ returns-in_default-clause-value c =
     frame_bad_side st p bytes c.requires.size c.requires.header
     (side_part st p bytes c.requires.size c.requires.header slot (length bytes - slot) _ c.slot_bytes-slot_bytes.ensures.value refl c.in_default.ensures.value)
 
-refused : (c : After-from_residual) → frame_at c.args.settings.now (place_of c.args.tape.now) c.args.bytes.now ≡ Err c.in_err-end.field-0.0
-refused c =
+said_so : (c : After-from_residual) → frame_at c.args.settings.now (place_of c.args.tape.now) c.args.bytes.now ≡ Err c.in_err-end.field-0.0
+said_so c =
     let st = c.args.settings.now in
     let old = c.args.tape.now in
     let t = c.append.new.self in
@@ -49,12 +53,28 @@ refused c =
 pub returns-in_err-end-clause-value : goal.returns-in_err-end-clause-value
 returns-in_err-end-clause-value c =
     let is : c.from_residual.result ≡ Err c.in_err-end.field-0.0 = search rules in
-    gives_err _ _ c.from_residual.result c.in_err-end.field-0.0 is (refused c)
+    gives_err _ _ c.from_residual.result c.in_err-end.field-0.0 is (said_so c)
 
 pub returns-in_err-end-clause-own : goal.returns-in_err-end-clause-own
 returns-in_err-end-clause-own c =
     let is : c.from_residual.result ≡ Err c.in_err-end.field-0.0 = search rules in
-    λ e. not_read c.in_err-end.field-0.0 c.from_residual.result is e (own_fault (frame_at c.args.settings.now (place_of c.args.tape.now) c.args.bytes.now) c.in_err-end.field-0.0 (own_frame c.args.settings.now (place_of c.args.tape.now) c.args.bytes.now) (refused c))
+    let st = c.args.settings.now in
+    let t = c.append.new.self in
+    let f = c.in-Some.side in
+    refused c.from_residual.result c.in_err-end.field-0.0 IsWithin is
+    (own_fault _ c.in_err-end.field-0.0 (own_main st (place_of t) (f.begin, units_of st.channels f.units) (slot_of t c.slot_bytes-slot_bytes.result)) c.in_err-end.ensures.value)
+
+pub returns-in_err-end-clause-still : goal.returns-in_err-end-clause-still
+returns-in_err-end-clause-still c =
+    let old = c.args.tape.now in
+    let t = c.append.new.self in
+    at_refused c.from_residual.result ((st : Settings) → IsKept st old → IsKept st t) (λ st kept. appended_kept st old t kept c.append.ensures.same c.append.ensures.bytes)
+
+pub returns-in_default-clause-still : goal.returns-in_default-clause-still
+returns-in_default-clause-still c = λ st kept. kept
+
+pub returns-in_err-end-clause-same : goal.returns-in_err-end-clause-same
+returns-in_err-end-clause-same c = at_refused c.from_residual.result (place_of c.append.new.self ≡ place_of c.args.tape.now) (appended_place c.args.tape.now c.append.new.self c.append.ensures.same c.append.ensures.front)
 
 pub pass-requires-clause-within : goal.pass-requires-clause-within
 pass-requires-clause-within c =

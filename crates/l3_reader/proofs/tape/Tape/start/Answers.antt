@@ -16,3 +16,12 @@ returns-clause-kept c = λ st. record {
   near = omega arith;
   within = omega arith;
 }
+
+pub returns-clause-rest : goal.returns-clause-rest
+returns-clause-rest c = record {
+  room = ap length c.no_bytes-bytes.ensures ∙ length-replicate {A = ℕ} 4096 0;
+  few = omega arith;
+  small = omega arith;
+  begun = omega arith;
+  within = omega arith;
+}
