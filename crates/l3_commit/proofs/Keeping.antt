@@ -20,7 +20,7 @@ use Rattle.l3_commit.specs.Choice.{Spectra, budget_at, unit_chosen, after_unit, 
 use Rattle.l3_commit.specs.Laws.{AreSpectra, ChosenWell, ChosenFollow}
 use Rattle.l3_commit.specs.Tracks.{granules_length}
 use Rattle.l3_commit.proofs.CodedPicks.{coded_within, bits_within}
-use Rattle.l3_commit.proofs.Following.{CanFollow-more, nothing-follows}
+use Rattle.l3_stream.proofs.Following.{CanFollow-more, nothing-follows}
 
 budget-by : (mean excess reserve limit : ℕ) → min (mean + max (min excess (6 * reserve / 10)) (reserve - 64 * limit / 10)) 4095 ≤ reserve + mean
 budget-by mean excess reserve limit = omega arith

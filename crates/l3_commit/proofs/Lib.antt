@@ -1,7 +1,6 @@
 pub mod CodedLines
 pub mod CodedUnits
 pub mod CodedPicks
-pub mod Following
 pub mod Taking
 pub mod Keeping
 pub mod Tracking

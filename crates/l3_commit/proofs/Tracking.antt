@@ -19,9 +19,9 @@ use Rattle.l3_stream.specs.Units.{lengths}
 use Rattle.l3_stream.specs.Coded.{IsCodedGranule}
 use Rattle.l3_stream.specs.Frames.{code_bits}
 use Rattle.l3_commit.specs.Choice.{granule_chosen, after_granule, AreOfChannels}
-use Rattle.l3_commit.specs.Following.{CanFollow}
+use Rattle.l3_stream.specs.Tape.{CanFollow}
 use Rattle.l3_commit.specs.Tracks.{TrackView, IsTrack, granules_length, with_granule, with_frame_ended}
-use Rattle.l3_commit.proofs.Following.{CanFollow-more}
+use Rattle.l3_stream.proofs.Following.{CanFollow-more}
 use Rattle.l3_commit.proofs.Keeping.{granule-kept, granule-coded, shares-slot, mmax-near, all-granules, whole-coded, whole-bits}
 
 kbits-small : (r : Rate) → kbits_of r ≤ 320

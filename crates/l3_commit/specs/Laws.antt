@@ -8,10 +8,9 @@ use Rattle.l3_stream.specs.declared.unit.ChosenFrame.{ChosenFrame}
 use Rattle.l3_stream.specs.Units.{lengths}
 use Rattle.l3_stream.specs.Frames.{units_of, code_bits, IsCoded}
 use Rattle.l3_stream.specs.StreamLaws.{AreSame}
-use Rattle.l3_stream.specs.Tape.{FramesFit, Spells}
+use Rattle.l3_stream.specs.Tape.{FramesFit, Spells, CanFollow}
 use Rattle.l3_commit.specs.Choice.{Spectra, begin_before, frame_chosen, frames_before}
 use Rattle.l3_commit.specs.Encoding.{frames_for, frames_chosen, encoding_of}
-use Rattle.l3_commit.specs.Following.{CanFollow}
 
 -- each is 576 lines, each below 2^29 in absolute value
 abbrev pub AreSpectra : Spectra → Type 0

@@ -4,7 +4,6 @@ pub mod Units
 pub mod Choice
 pub mod Tried
 pub mod Encoding
-pub mod Following
 pub mod Laws
 pub mod Tracks
 pub mod Standing

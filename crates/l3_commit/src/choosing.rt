@@ -2,7 +2,6 @@ ghost use Rattle.std.specs.Prelude.{◌≡◌, ◌+◌, ◌≤◌, ◌<◌, ◌^
 ghost use Rattle.l3_base.specs.Lengths.{mean_bits_of};
 ghost use Rattle.l3_base.specs.Spectrum.{IsSpectrum};
 ghost use Rattle.l3_reservoir.specs.Budget.{left_by};
-ghost use Rattle.l3_stream.specs.Units.{zero_lines};
 ghost use Rattle.l3_stream.specs.Frames.{blank};
 ghost use Rattle.l3_search.specs.Gain.{tried_of};
 ghost use Rattle.l3_commit.specs.Units.{unit_within};
@@ -16,7 +15,7 @@ use l3_base::{Channels, Settings, Spectrum, Steps};
 use l3_energy::demand;
 use l3_reservoir::Reserve;
 use l3_search::{Memo, pick};
-use l3_stream::{QuadTable, Unit};
+use l3_stream::Unit;
 use std::sync::ledger::Ledger;
 
 // Where a unit's bits come from.
@@ -25,23 +24,6 @@ pub(crate) struct Place {
     pub(crate) settings: Settings,
     // The number of its frame, at most 2^32.
     pub(crate) frame: u64,
-}
-
-// A unit that is zero in every field, with table A.
-fn blank_unit() -> Unit
-    ensures { result ≡ blank }
-{
-    Unit {
-        length: 0,
-        big: 0,
-        quads: 0,
-        gain: 0,
-        region0: 0,
-        region1: 0,
-        tables: [0; 3],
-        quad: QuadTable::A,
-        lines: no_lines(),
-    }
 }
 
 // The bits that a unit may take under the reserve before it.
@@ -114,7 +96,7 @@ pub(crate) fn choose_granule<L: Ledger + Send>(
     let first = choose(reserve, place, left, bits, memo, steps, &mut units[0]);
     match place.settings.channels {
         Channels::Mono => {
-            units[1] = blank_unit();
+            units[1] = Unit::blank();
             u32::from(first)
         }
         Channels::Stereo => {
@@ -125,17 +107,9 @@ pub(crate) fn choose_granule<L: Ledger + Send>(
     }
 }
 
-// 576 lines of value 0.
-#[inline(always)]
-fn no_lines() -> [i16; 576]
-    ensures { result ≡ zero_lines 576 }
-{
-    [0; 576]
-}
-
 // Units of two granules, all of them blank.
 pub(crate) fn no_units() -> [[Unit; 2]; 2]
     ensures { result ≡ (blank ∷ blank ∷ []) ∷ (blank ∷ blank ∷ []) ∷ [] }
 {
-    [[blank_unit(); 2]; 2]
+    [[Unit::blank(); 2]; 2]
 }

@@ -7,7 +7,7 @@ ghost use Rattle.l3_reservoir.specs.Budget.{begin_after};
 ghost use Rattle.l3_stream.specs.declared.unit.ChosenFrame.{ChosenFrame};
 ghost use Rattle.l3_commit.specs.Choice.{frame_chosen};
 ghost use Rattle.l3_commit.specs.Encoding.{frames_for, spectra_of};
-ghost use Rattle.l3_commit.specs.Following.{CanFollow};
+ghost use Rattle.l3_stream.specs.Tape.{CanFollow};
 ghost use Rattle.l3_commit.specs.Standing.{IsRightOf, StandsFor, StillStands, gathered, granule_committed, frame_committed, granules_for, total_of};
 ghost use Rattle.l3_commit.specs.Tracks.{first_track, next_of};
 ghost use Rattle.l3_commit.specs.Tried.{tried_at};

@@ -3,7 +3,7 @@ ghost use Rattle.std.specs.Borrow.{sem};
 ghost use Rattle.l3_base.specs.Lengths.{mmax_of};
 ghost use Rattle.l3_reservoir.specs.Budget.{begin_after};
 ghost use Rattle.l3_commit.specs.Encoding.{of_channel};
-ghost use Rattle.l3_commit.specs.Following.{CanFollow};
+ghost use Rattle.l3_stream.specs.Tape.{CanFollow};
 ghost use Rattle.l3_commit.specs.Tried.{granule_tried};
 
 use crate::choosing::{Place, choose_granule, no_units};

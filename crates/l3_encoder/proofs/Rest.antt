@@ -3,11 +3,10 @@ use Rattle.std.proofs.Common.{◌≡◌, ◌∙◌, sym, ap, subst, ℕ, zero, s
 use Rattle.std.proofs.lemmas.List.{append-nil}
 use Rattle.l3_base.specs.declared.settings.Settings.{Settings}
 use Rattle.l3_stream.specs.declared.unit.ChosenFrame.{ChosenFrame}
-use Rattle.l3_stream.specs.Tape.{FitsAt, FramesFit, end_of}
+use Rattle.l3_stream.specs.Tape.{FitsAt, FramesFit, end_of, end_after}
 use Rattle.l3_commit.specs.Choice.{Spectra, frame_chosen, frames_before}
-use Rattle.l3_commit.specs.Following.{end_after}
 use Rattle.l3_commit.specs.Laws.{AreSpectra}
-use Rattle.l3_commit.proofs.Following.{end_after-more}
+use Rattle.l3_stream.proofs.Following.{end_after-more}
 use Rattle.l3_commit.proofs.Keeping.{chosen-follow}
 
 -- k of them from frame n on

@@ -9,7 +9,7 @@ returns-in-Mono-clause-value g c =
     let lines = of_channel c.args.left.now c.args.right.now in
     let u = c.choose-first in
     let first = unit-taken place.settings place.frame c.args.reserve.now c.budget-bits.result c.args.left.now u.new.unit u.new.reserve u.result c.budget-bits.ensures.value u.ensures.value u.ensures.rest u.ensures.tried in
-    (granule-mono place.settings place.frame c.args.reserve.now lines c.args.units.now u.new.unit c.blank_unit.result u.new.reserve u.result c.in-Mono.is c.told-units first c.blank_unit.ensures).units_are
+    (granule-mono place.settings place.frame c.args.reserve.now lines c.args.units.now u.new.unit c.blank.result u.new.reserve u.result c.in-Mono.is c.told-units first c.blank.ensures).units_are
 
 pub returns-in-Mono-clause-rest : goal.returns-in-Mono-clause-rest
 returns-in-Mono-clause-rest g c =
@@ -17,7 +17,7 @@ returns-in-Mono-clause-rest g c =
     let lines = of_channel c.args.left.now c.args.right.now in
     let u = c.choose-first in
     let first = unit-taken place.settings place.frame c.args.reserve.now c.budget-bits.result c.args.left.now u.new.unit u.new.reserve u.result c.budget-bits.ensures.value u.ensures.value u.ensures.rest u.ensures.tried in
-    (granule-mono place.settings place.frame c.args.reserve.now lines c.args.units.now u.new.unit c.blank_unit.result u.new.reserve u.result c.in-Mono.is c.told-units first c.blank_unit.ensures).after_is
+    (granule-mono place.settings place.frame c.args.reserve.now lines c.args.units.now u.new.unit c.blank.result u.new.reserve u.result c.in-Mono.is c.told-units first c.blank.ensures).after_is
 
 pub returns-in-Mono-clause-tried : goal.returns-in-Mono-clause-tried
 returns-in-Mono-clause-tried g c =
@@ -26,7 +26,7 @@ returns-in-Mono-clause-tried g c =
     let u = c.choose-first in
     let first = unit-taken place.settings place.frame c.args.reserve.now c.budget-bits.result c.args.left.now u.new.unit u.new.reserve u.result c.budget-bits.ensures.value u.ensures.value u.ensures.rest u.ensures.tried in
     c.from.ensures
-    ∙ (granule-mono place.settings place.frame c.args.reserve.now lines c.args.units.now u.new.unit c.blank_unit.result u.new.reserve u.result c.in-Mono.is c.told-units first c.blank_unit.ensures).tried_is
+    ∙ (granule-mono place.settings place.frame c.args.reserve.now lines c.args.units.now u.new.unit c.blank.result u.new.reserve u.result c.in-Mono.is c.told-units first c.blank.ensures).tried_is
 
 pub returns-in-Stereo-clause-value : goal.returns-in-Stereo-clause-value
 returns-in-Stereo-clause-value g c =

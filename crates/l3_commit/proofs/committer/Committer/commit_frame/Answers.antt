@@ -2,7 +2,7 @@ use Rattle.std.proofs.Common.{◌+◌, ◌++◌, ◌∷◌, [], List, ap, sym, s
 use Rattle.l3_base.specs.Lengths.{mmax_of}
 use Rattle.l3_reservoir.specs.Budget.{begin_after}
 use Rattle.l3_stream.specs.declared.unit.ChosenFrame.{ChosenFrame}
-use Rattle.l3_commit.specs.Following.{CanFollow}
+use Rattle.l3_stream.specs.Tape.{CanFollow}
 use Rattle.l3_commit.specs.Standing.{CommitterView, StillStands}
 use Rattle.l3_commit.proofs.Standings.{stands-frame, frame-view, chosen-frame}
 use Rattle.l3_commit.proofs.committer.Committer.commit_frame.Goals as goal

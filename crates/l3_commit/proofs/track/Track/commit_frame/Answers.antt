@@ -2,7 +2,7 @@ use Rattle.std.proofs.Common.{◌≡◌, ◌+◌, ◌++◌, ◌∷◌, [], ap, �
 use Rattle.l3_base.specs.Lengths.{mmax_of}
 use Rattle.l3_reservoir.specs.Budget.{begin_after}
 use Rattle.l3_stream.specs.declared.unit.ChosenFrame.{ChosenFrame}
-use Rattle.l3_commit.specs.Following.{CanFollow}
+use Rattle.l3_stream.specs.Tape.{CanFollow}
 use Rattle.l3_commit.specs.Tracks.{TrackView, IsTrack}
 use Rattle.l3_commit.proofs.Tracking.{taken-whole, follows-ended, ended-view}
 use Rattle.l3_commit.proofs.track.Track.commit_frame.Goals as goal
