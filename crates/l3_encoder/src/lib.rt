@@ -5,10 +5,12 @@
 #![tactic(auto)]
 
 mod alone;
+mod file_laws;
 mod input;
 mod stream;
 
 pub use alone::encode_alone;
+pub use file_laws::files_are_encoded;
 pub use l3_commit::{EncodeFault, Report};
 
 #[cfg(test)]
