@@ -21,6 +21,9 @@ fn least_gain(x: u32, finer: u32, least: u8) -> u8
     ensures coded { magnitude_at x (258 - result + finer) ≤ 8191 }
     ensures least { (k : ℕ) → least ≤ k → k < result → 8191 < magnitude_at x (258 - k + finer) }
 {
+    if cut_magnitude(x, 258 - u32::from(least) + finer) <= GREATEST {
+        return least;
+    }
     let mut low = least;
     let mut high = 255u8;
     while low < high {

@@ -14,12 +14,12 @@ loop-low-init c = record {
 
 pub loop-low-preserved : goal.loop-low-preserved
 loop-low-preserved c =
-    let here : 8191 < magnitude_at c.args.x (258 - c.from.result + c.args.finer) = omega arith in
+    let here : 8191 < magnitude_at c.args.x (258 - c.from-in-loop-low.result + c.args.finer) = omega arith in
     record {
       from = omega arith;
       ordered = omega arith;
       within = omega arith;
       coded = c.loop-low.invariant.coded;
       least = λ k from lt.
-          omega (arith, magnitude_at-steps c.args.x (258 - c.from.result + c.args.finer) (258 - k + c.args.finer) (omega arith));
+          omega (arith, magnitude_at-steps c.args.x (258 - c.from-in-loop-low.result + c.args.finer) (258 - k + c.args.finer) (omega arith));
     }
