@@ -1,12 +1,13 @@
 -- The channels of a piece in turn, under the reserve that it supposes.
-use Rattle.std.proofs.Common.{◌≡◌, ℕ, zero, suc, ◌+◌, ◌≤◌, List, Option, refl, ap, arith, ℤ}
+use Rattle.std.proofs.Common.{◌≡◌, ℕ, zero, suc, ◌+◌, ◌≤◌, List, refl, ap, arith, ℤ}
 use Rattle.l3_base.specs.declared.rate.Channels.TheVariants.{Mono, Stereo}
+use Rattle.l3_base.specs.Amp.{no_amp}
 use Rattle.l3_base.specs.Rates.{channels_of}
-use Rattle.l3_count.specs.Count.{Counted}
+use Rattle.l3_count.specs.Memo.{LaneView}
 use Rattle.l3_count.specs.Gains.{first_gain_of}
-use Rattle.l3_search.specs.Gain.{HasCountsTo, lacking, picked_gain}
+use Rattle.l3_search.specs.Gain.{HasLaneTo, lacking, picked_gain}
 use Rattle.l3_analysis.specs.declared.stage.Stage.TheVariants.{Presumed}
-use Rattle.l3_analysis.specs.Piece.{PieceView, IsChannel, demand_in, edges_in, memo_in, spectrum_in}
+use Rattle.l3_analysis.specs.Piece.{PieceView, IsChannel, counts_in, demand_in, edges_in, memo_in, spectrum_in}
 use Rattle.l3_analysis.specs.Presumed.{IsPresumed, budget_under, frame_in, presumed_gain, presumed_steps, presumed_steps_in, reserve_after, reserve_before}
 
 -- the first channel has what is supposed
@@ -22,19 +23,19 @@ reserve_before-second v frame reserve demand lines e f n r = rw (e, f, n, r) ref
 
 -- the gain that is picked for what the code holds of a channel
 pub presumed_gain-is : (v : PieceView) (channel frame reserve demand : ℕ) (lines : List ℤ) → lines ≡ spectrum_in v channel → demand ≡ demand_in v channel → frame ≡ frame_in v → reserve ≡ reserve_before v channel →
-    picked_gain (edges_in v) lines (budget_under v.settings frame reserve demand) ≡ presumed_gain v channel
+    picked_gain (edges_in v) no_amp lines (budget_under v.settings frame reserve demand) ≡ presumed_gain v channel
 unfolding presumed_gain
 presumed_gain-is v channel frame reserve demand lines e f n r = rw (e, f, n, r) refl
 
 -- its counts
-pub counts-presumed : (v : PieceView) (channel gain : ℕ) (lines : List ℤ) (before after : List (Option Counted)) → lines ≡ spectrum_in v channel → gain ≡ presumed_gain v channel →
-    HasCountsTo (edges_in v) lines (first_gain_of lines) gain before after →
-    HasCountsTo (edges_in v) (spectrum_in v channel) (first_gain_of (spectrum_in v channel)) (presumed_gain v channel) before after
+pub counts-presumed : (v : PieceView) (channel gain : ℕ) (lines : List ℤ) (before after : List LaneView) → lines ≡ spectrum_in v channel → gain ≡ presumed_gain v channel →
+    HasLaneTo (edges_in v) no_amp lines 0 (first_gain_of (edges_in v) no_amp lines) gain before after →
+    HasLaneTo (edges_in v) no_amp (spectrum_in v channel) 0 (first_gain_of (edges_in v) no_amp (spectrum_in v channel)) (presumed_gain v channel) before after
 counts-presumed v channel gain lines before after e f h = rw (e, f) at h
 
 -- its steps
 pub steps-presumed : (v : PieceView) (channel gain : ℕ) (lines : List ℤ) → lines ≡ spectrum_in v channel → gain ≡ presumed_gain v channel →
-    lacking (memo_in v channel) (first_gain_of lines) gain ≡ presumed_steps_in v channel
+    lacking (counts_in v channel) (first_gain_of (edges_in v) no_amp lines) gain ≡ presumed_steps_in v channel
 steps-presumed v channel gain lines e f = rw (e, f) refl
 
 -- the steps of all channels
@@ -48,7 +49,7 @@ presumed_steps-stereo v e = rw e (omega arith)
 
 -- what a channel has after presuming
 abbrev pub HasPresumed : PieceView → PieceView → ℕ → Type 0
-HasPresumed v w channel = HasCountsTo (edges_in v) (spectrum_in v channel) (first_gain_of (spectrum_in v channel)) (presumed_gain v channel) (memo_in v channel) (memo_in w channel)
+HasPresumed v w channel = HasLaneTo (edges_in v) no_amp (spectrum_in v channel) 0 (first_gain_of (edges_in v) no_amp (spectrum_in v channel)) (presumed_gain v channel) (memo_in v channel) (memo_in w channel)
 
 -- in mono: the first channel
 pub counts-mono : (v w : PieceView) → channels_of v.settings.channels ≡ 1 → HasPresumed v w 0 → (channel : ℕ) → IsChannel v channel → HasPresumed v w channel

@@ -1,6 +1,8 @@
+pub use Rattle.l3_search.specs.Amp
 pub use Rattle.l3_search.specs.Rates
 pub use Rattle.l3_search.specs.Spectrum
 pub use Rattle.l3_search.specs.Quantiser
+pub use Rattle.l3_search.specs.Amplified
 pub use Rattle.l3_search.specs.Gains
 pub use Rattle.l3_search.specs.Tables
 pub use Rattle.l3_search.specs.Bands

@@ -4,12 +4,13 @@ use Rattle.l3_base.specs.declared.rate.Channels.{Channels}
 use Rattle.l3_base.specs.declared.rate.Channels.TheVariants.{Mono, Stereo}
 use Rattle.l3_base.specs.declared.settings.Settings.{Settings}
 use Rattle.l3_base.specs.declared.slots.Window.{Window}
+use Rattle.l3_base.specs.Amp.{no_amp}
 use Rattle.l3_base.specs.Rates.{channels_of, hertz_index_of}
 use Rattle.l3_mdct.specs.Spectrum.{spectrum_of}
 use Rattle.l3_energy.specs.Demand.{demand_of}
 use Rattle.l3_count.specs.Bands.{band_edges}
 use Rattle.l3_count.specs.Count.{Counted}
-use Rattle.l3_count.specs.Memo.{IsMemoOf, no_counts}
+use Rattle.l3_count.specs.Memo.{IsMemoOf, LaneView, empty_memo, lane_of}
 use Rattle.l3_analysis.specs.declared.stage.Stage.{Stage}
 use Rattle.l3_analysis.specs.declared.stage.Stage.TheVariants.{Blank, Loaded, Transformed, Presumed}
 
@@ -21,11 +22,11 @@ pub record PieceView : Type 0 where
   pub stage : Stage
   pub guess : ℕ
   pub window : Window
-  pub memos : List (List (Option Counted))
+  pub memos : List (List LaneView)
 
 -- two memos with no count
-abbrev pub no_memos : List (List (Option Counted))
-no_memos = no_counts ∷ no_counts ∷ []
+abbrev pub no_memos : List (List LaneView)
+no_memos = empty_memo ∷ empty_memo ∷ []
 
 -- a window of zeros
 abbrev pub silence : Window
@@ -80,17 +81,23 @@ abbrev pub edges_in : PieceView → List ℕ
 edges_in v = band_edges v.settings.sample_rate
 
 -- the memo of a channel
-abbrev pub memo_in : PieceView → ℕ → List (Option Counted)
-memo_in v channel = slice_index_or v.memos channel no_counts
+abbrev pub memo_in : PieceView → ℕ → List LaneView
+memo_in v channel = slice_index_or v.memos channel empty_memo
+
+-- the counts without amplification in it, which are those of its first lane
+abbrev pub counts_in : PieceView → ℕ → List (Option Counted)
+counts_in v channel = (lane_of (memo_in v channel) 0).counts
 
 -- the piece with another memo of a channel
-abbrev pub with_memo : PieceView → ℕ → List (Option Counted) → PieceView
+abbrev pub with_memo : PieceView → ℕ → List LaneView → PieceView
 with_memo v channel memo = record v { memos = slice_set v.memos channel memo }
 
--- there are two memos; where the spectra are there, a memo's counts are those of its channel's
--- spectrum; before that, and for a channel that is not there, it has none
+-- there are two memos, and their first lanes are under no amplification; where the spectra are there,
+-- a memo's counts are those of its channel's spectrum; before that, and for a channel that is not
+-- there, it has none
 pub record IsSound (v : PieceView) : Type 0 where
   pub two : length v.memos ≡ 2
+  pub plain : (channel : ℕ) → (lane_of (memo_in v channel) 0).amp ≡ no_amp
   pub counts : HasSpectra v.stage → (channel : ℕ) → IsChannel v channel → IsMemoOf (edges_in v) (spectrum_in v channel) (memo_in v channel)
   pub before : (HasSpectra v.stage → ⊥) → v.memos ≡ no_memos
-  pub absent : (channel : ℕ) → channels_of v.settings.channels ≤ channel → memo_in v channel ≡ no_counts
+  pub absent : (channel : ℕ) → channels_of v.settings.channels ≤ channel → memo_in v channel ≡ empty_memo

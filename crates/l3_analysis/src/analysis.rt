@@ -1,14 +1,15 @@
 ghost use Rattle.std.specs.Prelude.{◌≡◌, ◌≤◌, ◌<◌, ◌+◌, ◌^◌, Some, replicate, pos};
+ghost use Rattle.l3_base.specs.Amp.{no_amp};
 ghost use Rattle.l3_base.specs.Rates.{hertz_index_of};
 ghost use Rattle.l3_mdct.specs.Spectrum.{spectrum_of};
 ghost use Rattle.l3_energy.specs.Demand.{demand_of};
 ghost use Rattle.l3_count.specs.Bands.{band_edges};
 ghost use Rattle.l3_count.specs.Gains.{first_gain_of};
-ghost use Rattle.l3_count.specs.Memo.{IsMemoOf, no_counts};
-ghost use Rattle.l3_search.specs.Gain.{HasCountsTo, lacking, picked, picked_gain};
+ghost use Rattle.l3_count.specs.Memo.{IsMemoOf, empty_memo, lane_of};
+ghost use Rattle.l3_search.specs.Gain.{HasLaneTo, lacking, picked, picked_gain};
 ghost use Rattle.l3_analysis.specs.Presumed.{budget_under, reserve_after};
 
-use l3_base::{SampleRate, Settings, Slots36, Spectrum, Steps};
+use l3_base::{Amp, SampleRate, Settings, Slots36, Spectrum, Steps};
 use l3_count::Memo;
 use l3_energy::demand;
 use l3_mdct::spectrum;
@@ -28,7 +29,7 @@ pub(crate) struct Analysis {
 impl Analysis {
     // Nothing was made yet.
     pub(crate) fn new() -> Analysis
-        ensures { result.memo ≡ no_counts }
+        ensures { result.memo ≡ empty_memo }
     {
         Analysis {
             spectrum: Spectrum::zero(),
@@ -57,18 +58,20 @@ impl Analysis {
         steps: &mut Steps<L>,
     ) -> Picked
         requires memo { IsMemoOf (band_edges rate) self.old.spectrum self.old.memo }
-        ensures count { picked (band_edges rate) self.old.spectrum budget ≡ Some result.count }
-        ensures gain { result.count.gain ≡ picked_gain (band_edges rate) self.old.spectrum budget }
+        requires plain { (lane_of self.old.memo 0).amp ≡ no_amp }
+        ensures count { picked (band_edges rate) no_amp self.old.spectrum budget ≡ Some result.count }
+        ensures gain { result.count.gain ≡ picked_gain (band_edges rate) no_amp self.old.spectrum budget }
         ensures within { result.count.bits ≤ budget }
-        ensures made { result.made ≡ lacking self.old.memo (first_gain_of self.old.spectrum) (picked_gain (band_edges rate) self.old.spectrum budget) }
+        ensures made { result.made ≡ lacking (lane_of self.old.memo 0).counts (first_gain_of (band_edges rate) no_amp self.old.spectrum) (picked_gain (band_edges rate) no_amp self.old.spectrum budget) }
         ensures limit { result.made ≤ 256 }
         ensures ticks { steps.new ≡ steps.old + result.made }
-        ensures memo { HasCountsTo (band_edges rate) self.old.spectrum (first_gain_of self.old.spectrum) (picked_gain (band_edges rate) self.old.spectrum budget) self.old.memo self.new.memo }
+        ensures memo { HasLaneTo (band_edges rate) no_amp self.old.spectrum 0 (first_gain_of (band_edges rate) no_amp self.old.spectrum) (picked_gain (band_edges rate) no_amp self.old.spectrum budget) self.old.memo self.new.memo }
         ensures kept { IsMemoOf (band_edges rate) self.old.spectrum self.new.memo }
         ensures spectrum { self.new.spectrum ≡ self.old.spectrum }
         ensures demand { self.new.demand ≡ self.old.demand }
     {
-        pick(&self.spectrum, rate, budget, &mut self.memo, steps)
+        let amp = Amp::zero();
+        pick(&self.spectrum, rate, &amp, 0, budget, &mut self.memo, steps)
     }
 
     // Picks the gain for the budget under a reserve, and spends the bits of its count.
@@ -82,10 +85,11 @@ impl Analysis {
         requires frame { frame ≤ 2 ^ 32 }
         requires reserve { reserve.old < 2 ^ 33 }
         requires memo { IsMemoOf (band_edges settings.now.sample_rate) self.old.spectrum self.old.memo }
+        requires plain { (lane_of self.old.memo 0).amp ≡ no_amp }
         ensures reserve { reserve.new ≡ reserve_after settings.now frame reserve.old self.old.demand self.old.spectrum }
         ensures bound { reserve.new < reserve.old + 2 ^ 32 }
-        ensures ticks { steps.new ≡ steps.old + lacking self.old.memo (first_gain_of self.old.spectrum) (picked_gain (band_edges settings.now.sample_rate) self.old.spectrum (budget_under settings.now frame reserve.old self.old.demand)) }
-        ensures memo { HasCountsTo (band_edges settings.now.sample_rate) self.old.spectrum (first_gain_of self.old.spectrum) (picked_gain (band_edges settings.now.sample_rate) self.old.spectrum (budget_under settings.now frame reserve.old self.old.demand)) self.old.memo self.new.memo }
+        ensures ticks { steps.new ≡ steps.old + lacking (lane_of self.old.memo 0).counts (first_gain_of (band_edges settings.now.sample_rate) no_amp self.old.spectrum) (picked_gain (band_edges settings.now.sample_rate) no_amp self.old.spectrum (budget_under settings.now frame reserve.old self.old.demand)) }
+        ensures memo { HasLaneTo (band_edges settings.now.sample_rate) no_amp self.old.spectrum 0 (first_gain_of (band_edges settings.now.sample_rate) no_amp self.old.spectrum) (picked_gain (band_edges settings.now.sample_rate) no_amp self.old.spectrum (budget_under settings.now frame reserve.old self.old.demand)) self.old.memo self.new.memo }
         ensures kept { IsMemoOf (band_edges settings.now.sample_rate) self.old.spectrum self.new.memo }
         ensures spectrum { self.new.spectrum ≡ self.old.spectrum }
         ensures demand { self.new.demand ≡ self.old.demand }

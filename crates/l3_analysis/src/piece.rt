@@ -10,7 +10,7 @@ use l3_search::Picked;
 use std::marker::Model;
 use std::sync::ledger::Ledger;
 
-/// One granule: its window, and what was made of it so far. It has at most 32 KB.
+/// One granule: its window, and what was made of it so far. It has at most 48 KB.
 ///
 /// Blank, loaded, transformed, presumed: from transformed on its spectra and demands are those of
 /// its own window and settings, and each entry of a memo is the count of its channel's spectrum.
@@ -61,10 +61,11 @@ fn zeros() -> Window
 }
 
 impl Piece {
+    ghost use Rattle.l3_base.specs.Amp.{no_amp};
     ghost use Rattle.l3_analysis.specs.declared.stage.Stage.TheVariants.{Loaded, Transformed, Presumed};
     ghost use Rattle.l3_count.specs.Gains.{first_gain_of};
-    ghost use Rattle.l3_search.specs.Gain.{HasCountsTo, lacking, picked, picked_gain};
-    ghost use Rattle.l3_analysis.specs.Piece.{HasSpectra, IsChannel, IsSound, blank_of, demand_in, edges_in, loaded_with, memo_in, spectrum_in, with_memo};
+    ghost use Rattle.l3_search.specs.Gain.{HasLaneTo, lacking, picked, picked_gain};
+    ghost use Rattle.l3_analysis.specs.Piece.{HasSpectra, IsChannel, IsSound, blank_of, counts_in, demand_in, edges_in, loaded_with, memo_in, spectrum_in, with_memo};
     ghost use Rattle.l3_analysis.specs.Presumed.{IsPresumed, presumed_steps};
 
     /// A piece of no granule yet, with number 0 and a window of zeros.
@@ -140,13 +141,13 @@ impl Piece {
     ) -> Picked
         requires stage { HasSpectra self.old.stage }
         requires channel { IsChannel self.old channel }
-        ensures count { picked (edges_in self.old) (spectrum_in self.old channel) budget ≡ Some result.count }
-        ensures gain { result.count.gain ≡ picked_gain (edges_in self.old) (spectrum_in self.old channel) budget }
+        ensures count { picked (edges_in self.old) no_amp (spectrum_in self.old channel) budget ≡ Some result.count }
+        ensures gain { result.count.gain ≡ picked_gain (edges_in self.old) no_amp (spectrum_in self.old channel) budget }
         ensures within { result.count.bits ≤ budget }
-        ensures made { result.made ≡ lacking (memo_in self.old channel) (first_gain_of (spectrum_in self.old channel)) (picked_gain (edges_in self.old) (spectrum_in self.old channel) budget) }
+        ensures made { result.made ≡ lacking (counts_in self.old channel) (first_gain_of (edges_in self.old) no_amp (spectrum_in self.old channel)) (picked_gain (edges_in self.old) no_amp (spectrum_in self.old channel) budget) }
         ensures limit { result.made ≤ 256 }
         ensures ticks { steps.new ≡ steps.old + result.made }
-        ensures memo { HasCountsTo (edges_in self.old) (spectrum_in self.old channel) (first_gain_of (spectrum_in self.old channel)) (picked_gain (edges_in self.old) (spectrum_in self.old channel) budget) (memo_in self.old channel) (memo_in self.new channel) }
+        ensures memo { HasLaneTo (edges_in self.old) no_amp (spectrum_in self.old channel) 0 (first_gain_of (edges_in self.old) no_amp (spectrum_in self.old channel)) (picked_gain (edges_in self.old) no_amp (spectrum_in self.old channel) budget) (memo_in self.old channel) (memo_in self.new channel) }
         ensures rest { self.new ≡ with_memo self.old channel (memo_in self.new channel) }
     {
         let rate = self.settings.sample_rate;

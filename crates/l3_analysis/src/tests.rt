@@ -45,7 +45,7 @@ fn transformed(number: GranuleNo) -> Piece
 fn has_count(piece: &Piece, gain: u8) -> bool
     requires { piece.now.settings.channels ≡ Mono }
 {
-    piece.memo(0).get(gain).is_some()
+    piece.memo(0).get(0, gain).is_some()
 }
 
 // Whether the memo has a count at gain 0 and at gain 1 after counting, and at gain 0 after the next
@@ -105,7 +105,7 @@ fn needs_send<T: Send>() {}
 fn box_crosses_threads(rt: HostRuntime) -> Result<(), Fail> {
     needs_send::<PieceBox>();
     let mut boxed = PieceBox::new(rt.alloc(), settings())?;
-    assert!(rt; size_of_val(boxed.piece()) <= 32768);
+    assert!(rt; size_of_val(boxed.piece()) <= 49152);
     assert_eq!(rt; (boxed.number(), boxed.work()), (0, 0));
     let number = GranuleNo::new(3).ok_or("no number")?;
     load(boxed.piece_mut(), number);

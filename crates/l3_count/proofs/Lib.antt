@@ -2,3 +2,4 @@ pub mod Counts
 pub mod Cuts
 pub mod Tops
 pub mod Memos
+pub mod Costs

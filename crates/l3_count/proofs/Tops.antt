@@ -1,10 +1,9 @@
 -- The count at the highest gain.
 use Rattle.std.proofs.Common.{◌≡◌, ℕ, ◌≤◌, true, List, refl, sym, arith, ℤ, pos, min}
 use Rattle.std.specs.Prelude.{All, unsigned_abs, get_or, ◌==◌}
-use Rattle.std.proofs.lemmas.List.Elements.{All-map}
-use Rattle.l3_base.specs.Spectrum.{IsLine}
-use Rattle.l3_quant.specs.Quantiser.{IsCodable, magnitude, quantised, quantised_lines}
-use Rattle.l3_quant.proofs.Codable.{magnitude_at-top, zero_at_the_top}
+use Rattle.l3_quant.specs.Quantiser.{IsCodable}
+use Rattle.l3_quant.specs.Amplified.{quantised_bands}
+use Rattle.l3_quant.proofs.BandLemmas.{zeros_at_the_top}
 use Rattle.l3_huff.specs.Tables.{is_table}
 use Rattle.l3_huff.specs.declared.quads.QuadTable.TheVariants.{A}
 use Rattle.l3_region.specs.Split.{end_of_pairs, is_zero_from, ones_before, quad_values_of, split_of, zero_from}
@@ -21,14 +20,6 @@ use Rattle.l3_count.proofs.Counts.{count_of-some, first_gain_of-le}
 -- all of the values are 0
 abbrev pub AreZero : List ℤ → Type 0
 AreZero q = All (λ x. x ≡ pos 0) q
-
-pub top_codable : (lines : List ℤ) → All IsLine lines → IsCodable (pos 255) lines
-top_codable lines small = λ k d lt.
-    let none : magnitude (pos 255) (get_or lines k d) ≡ 0 = magnitude_at-top (unsigned_abs (get_or lines k d)) (small k d lt) in
-    omega arith
-
-pub top_zeros : (lines : List ℤ) → All IsLine lines → AreZero (quantised_lines (pos 255) lines)
-top_zeros lines small = All-map (λ x. x ≡ pos 0) (quantised (pos 255)) lines (λ k d lt. zero_at_the_top (get_or lines k d) (small k d lt))
 
 zeros-from : (q : List ℤ) → AreZero q → is_zero_from q 0 ≡ true
 zeros-from q zeros = all_true (λ x. unsigned_abs x == 0) q (λ k d lt. rw (zeros k d lt) refl)
@@ -73,13 +64,23 @@ zeros-bits edges q zeros =
     let fewest = none_fewer edges q 0 0 0 0 0 A small (zeros-take edges q first middle last) in
     omega (arith, fewest, zero_bits (region edges q 0 0 0) first, zero_bits (region edges q 0 0 1) middle, zero_bits (region edges q 0 0 2) last, no_quads q split.0 split.1)
 
-zeros-counted : (edges : List ℕ) (q : List ℤ) → AreZero q → ((counted edges 255 q).bits ≡ 0) × ((counted edges 255 q).big ≡ 0) × ((counted edges 255 q).quads ≡ 0)
+zeros-counted : (edges amp : List ℕ) (q : List ℤ) → AreZero q →
+    ((counted edges amp 255 q).bits ≡ 0) × ((counted edges amp 255 q).big ≡ 0) × ((counted edges amp 255 q).quads ≡ 0)
 unfolding counted
-zeros-counted edges q zeros = (zeros-bits edges q zeros, sym (zeros-split q zeros).0, sym (zeros-split q zeros).1)
+zeros-counted edges amp q zeros = (zeros-bits edges q zeros, sym (zeros-split q zeros).0, sym (zeros-split q zeros).1)
 
 pub empty_at_the_top : EmptyAtTheTop
-empty_at_the_top edges lines small =
-    let q = quantised_lines (pos 255) lines in
-    let codable = top_codable lines small in
-    let none = zeros-counted edges q (top_zeros lines small) in
-    (counted edges 255 q, record { first = first_gain_of-le lines 255 codable; there = count_of-some edges lines 255 codable; bits = none.0; big = none.1; quads = none.2 })
+empty_at_the_top edges amp lines is small =
+    let q = quantised_bands edges amp (pos 255) lines in
+    let zeros = zeros_at_the_top edges amp lines is small in
+    let codable : IsCodable q = λ k d lt. rw (zeros k d lt) (omega arith) in
+    let none = zeros-counted edges amp q zeros in (
+      counted edges amp 255 q,
+      record {
+        first = first_gain_of-le edges amp lines 255 codable;
+        there = count_of-some edges amp lines 255 codable;
+        bits = none.0;
+        big = none.1;
+        quads = none.2;
+      },
+    )

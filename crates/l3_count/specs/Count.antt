@@ -1,7 +1,8 @@
 -- What a unit costs at a gain: its split, regions and tables, and all their bits.
 use Rattle.std.specs.Prelude.{◌≡◌, ◌≤◌, ◌<◌, ◌+◌, ◌*◌, ℕ, List, length, slice_index, Option, Some, None, if◌then◌else◌, ℤ, pos}
-use Rattle.l3_quant.specs.Quantiser.{quantised_lines}
-use Rattle.l3_quant.specs.Gains.{is_codable}
+use Rattle.l3_base.specs.Amp.{IsAmp}
+use Rattle.l3_quant.specs.Quantiser.{is_codable}
+use Rattle.l3_quant.specs.Amplified.{quantised_bands}
 use Rattle.l3_huff.specs.Tables.{IsTable}
 use Rattle.l3_huff.specs.declared.quads.QuadTable.{QuadTable}
 use Rattle.l3_region.specs.declared.regions.Regions.{Regions}
@@ -9,9 +10,10 @@ use Rattle.l3_region.specs.declared.split.Split.{Split}
 use Rattle.l3_region.specs.Regions.{regions_of}
 use Rattle.l3_region.specs.Split.{split_of}
 
--- the count of a unit: global_gain, part2_3_length, big_values, quadruples, region0_count,
--- region1_count, table_select, count1table_select
+-- the count of a unit: amplification of its bands, global_gain, part2_3_length, big_values,
+-- quadruples, region0_count, region1_count, table_select, count1table_select
 pub record Counted : Type 0 where
+  pub amp : List ℕ
   pub gain : ℕ
   pub bits : ℕ
   pub big : ℕ
@@ -21,12 +23,13 @@ pub record Counted : Type 0 where
   pub tables : List ℕ
   pub quad : QuadTable
 
--- the count of 576 quantised values at a gain, for the edges of the bands
-unfoldable pub counted : List ℕ → ℕ → List ℤ → Counted
-counted edges gain q =
+-- the count of 576 quantised values under an amplification at a gain, for the edges of the bands
+unfoldable pub counted : List ℕ → List ℕ → ℕ → List ℤ → Counted
+counted edges amp gain q =
     let split = split_of q in
     let regions = regions_of edges q in
     record {
+      amp = amp;
       gain = gain;
       bits = regions.bits;
       big = split.big;
@@ -37,9 +40,12 @@ counted edges gain q =
       quad = regions.quad;
     }
 
--- the count of a spectrum's lines at a gain, none where a quantised value is above 8191 either way
-unfoldable pub count_of : List ℕ → List ℤ → ℕ → Option Counted
-count_of edges lines gain = if is_codable (pos gain) lines then Some (counted edges gain (quantised_lines (pos gain) lines)) else None
+-- the count of a spectrum's lines under an amplification at a gain, none where a quantised value is
+-- above 8191 either way
+unfoldable pub count_of : List ℕ → List ℕ → List ℤ → ℕ → Option Counted
+count_of edges amp lines gain =
+    let q = quantised_bands edges amp (pos gain) lines in
+    if is_codable q then Some (counted edges amp gain q) else None
 
 -- the split of a count
 abbrev pub split_in : Counted → Split
@@ -52,6 +58,7 @@ regions_in c = record { region0 = c.region0; region1 = c.region1; tables = c.tab
 -- what holds of any count: its parts have room in their fields of the side information, but that a
 -- budget limits its bits to 4095
 pub record IsCounted (c : Counted) : Type 0 where
+  pub amp : IsAmp c.amp
   pub gain : c.gain ≤ 255
   pub bits : c.bits ≤ 9216
   pub places : 2 * c.big + 4 * c.quads ≤ 576

@@ -1,10 +1,13 @@
+pub use Rattle.l3_base.specs.Amp
 pub use Rattle.l3_base.specs.Rates
 pub use Rattle.l3_base.specs.Spectrum
 pub use Rattle.l3_quant.specs.Quantiser
+pub use Rattle.l3_quant.specs.Amplified
 pub use Rattle.l3_quant.specs.Gains
 pub use Rattle.l3_quant.specs.Magnitudes
 pub use Rattle.l3_huff.specs.Tables
 pub use Rattle.l3_region.specs.Bands
+pub use Rattle.l3_region.specs.Peaks
 pub use Rattle.l3_region.specs.Cut
 pub use Rattle.l3_region.specs.Split
 pub use Rattle.l3_region.specs.Regions
@@ -12,3 +15,4 @@ pub use Rattle.l3_region.specs.Laws as RegionLaws
 pub mod Count
 pub mod Laws
 pub mod Memo
+pub mod Cost

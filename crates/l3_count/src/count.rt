@@ -3,45 +3,62 @@ ghost use Rattle.l3_region.specs.Bands.{band_edges};
 ghost use Rattle.l3_region.specs.Cut.{AreCutOf};
 ghost use Rattle.l3_huff.specs.Tables.{IsTable};
 
-use l3_base::SampleRate;
+use l3_base::{Amp, SampleRate};
 use l3_region::{QuadTable, Regions, Split, best_of_cut};
 use std::marker::Model;
 
-/// What a unit costs at a gain, with the split, regions and tables that its bits are for. It has at
-/// most 16 bytes.
+// All that a count says but its amplification. It has at most 16 bytes.
+#[derive(Clone, Copy, Debug)]
+pub(crate) struct Cost {
+    pub(crate) bits: u16,
+    pub(crate) big: u16,
+    pub(crate) quads: u16,
+    pub(crate) gain: u8,
+    pub(crate) region0: u8,
+    pub(crate) region1: u8,
+    pub(crate) tables: [u8; 3],
+    pub(crate) quad: QuadTable,
+}
+
+/// What a unit costs at a gain under an amplification, with the split, regions and tables that its
+/// bits are for. It has at most 40 bytes.
 #[derive(Clone, Copy, Debug)]
 pub struct Count {
-    bits: u16,
-    big: u16,
-    quads: u16,
-    gain: u8,
-    region0: u8,
-    region1: u8,
-    tables: [u8; 3],
-    quad: QuadTable,
+    amp: Amp,
+    cost: Cost,
 }
 
 impl Model for Count {
     ghost use Rattle.l3_count.specs.Count.{Counted, IsCounted};
+    ghost use Rattle.l3_count.specs.Cost.{cost_in, counted_with};
 
     ghost Value = { Counted };
 
-    ghost view = { λ c. record { gain = c.gain; bits = c.bits; big = c.big; quads = c.quads; region0 = c.region0; region1 = c.region1; tables = c.tables; quad = c.quad } };
+    ghost view = { λ c. counted_with c.amp c.cost };
 
-    ghost invariant = { λ c. IsCounted (record { gain = c.gain; bits = c.bits; big = c.big; quads = c.quads; region0 = c.region0; region1 = c.region1; tables = c.tables; quad = c.quad }) };
+    ghost invariant = { λ c. IsCounted (counted_with c.amp c.cost) };
 
-    ghost inverse = { λ c. record { bits = c.bits; big = c.big; quads = c.quads; gain = c.gain; region0 = c.region0; region1 = c.region1; tables = c.tables; quad = c.quad } };
+    ghost inverse = { λ c. record { amp = c.amp; cost = cost_in c } };
 }
 
 impl Count {
     ghost use Rattle.l3_count.specs.Count.{IsCounted, counted, regions_in, split_in};
+    ghost use Rattle.l3_count.specs.Cost.{cost_in, counted_with};
+
+    /// The amplification of the bands.
+    pub fn amp(&self) -> Amp
+        ensures value { result ≡ self.now.amp }
+        ensures counted { IsCounted self.now }
+    {
+        self.amp
+    }
 
     /// The `global_gain`, 0 to 255.
     pub fn gain(&self) -> u8
         ensures value { result ≡ self.now.gain }
         ensures counted { IsCounted self.now }
     {
-        self.gain
+        self.cost.gain
     }
 
     /// The bits of all codes of the unit, at most 9216.
@@ -49,7 +66,7 @@ impl Count {
         ensures value { result ≡ self.now.bits }
         ensures counted { IsCounted self.now }
     {
-        u32::from(self.bits)
+        u32::from(self.cost.bits)
     }
 
     /// How many pairs and quadruples there are, of together at most 576 values.
@@ -58,8 +75,8 @@ impl Count {
         ensures counted { IsCounted self.now }
     {
         Split {
-            big: self.big,
-            quads: self.quads,
+            big: self.cost.big,
+            quads: self.cost.quads,
         }
     }
 
@@ -69,31 +86,60 @@ impl Count {
         ensures counted { IsCounted self.now }
     {
         Regions {
-            region0: self.region0,
-            region1: self.region1,
-            tables: self.tables,
-            quad: self.quad,
-            bits: u32::from(self.bits),
+            region0: self.cost.region0,
+            region1: self.cost.region1,
+            tables: self.cost.tables,
+            quad: self.cost.quad,
+            bits: u32::from(self.cost.bits),
         }
     }
 
-    // The count at a gain of quantised values that are known by their absolute values cut at 15 and
-    // by the greatest one of each band.
-    pub(crate) fn of_cut(cut: &[u8; 576], peaks: &[u16; 22], rate: SampleRate, gain: u8) -> Count
-        requires { (q : List ℤ) × AreCutOf (band_edges rate) q cut.now peaks.now }
-        ensures { (q : List ℤ) → AreCutOf (band_edges rate) q cut.now peaks.now → result ≡ counted (band_edges rate) gain q }
+    // All but the amplification.
+    #[inline(always)]
+    pub(crate) fn cost(&self) -> Cost
+        ensures value { result ≡ cost_in self.now }
+        ensures counted { IsCounted self.now }
     {
+        self.cost
+    }
+
+    // The count of a cost under an amplification.
+    #[inline(always)]
+    pub(crate) fn of_cost(amp: Amp, cost: Cost) -> Count
+        requires { IsCounted (counted_with amp cost) }
+        ensures { result ≡ counted_with amp cost }
+    {
+        Count { amp, cost }
+    }
+
+    // The count under an amplification and at a gain of quantised values that are known by their
+    // absolute values cut at 15 and by the greatest one of each band.
+    pub(crate) fn of_cut(
+        cut: &[u8; 576],
+        peaks: &[u16; 22],
+        rate: SampleRate,
+        amp: &Amp,
+        gain: u8,
+    ) -> Count
+        requires { (q : List ℤ) × AreCutOf (band_edges rate) q cut.now peaks.now }
+        ensures { (q : List ℤ) → AreCutOf (band_edges rate) q cut.now peaks.now → result ≡ counted (band_edges rate) amp.now gain q }
+    {
+        // For the proof: an amplification is 21 numbers of 0 to 3.
+        let _first = amp.get(0);
         let (split, regions) = best_of_cut(cut, peaks, rate);
         let tables = regions.tables;
         Count {
-            bits: regions.bits as u16,
-            big: split.big,
-            quads: split.quads,
-            gain,
-            region0: regions.region0,
-            region1: regions.region1,
-            tables,
-            quad: regions.quad,
+            amp: *amp,
+            cost: Cost {
+                bits: regions.bits as u16,
+                big: split.big,
+                quads: split.quads,
+                gain,
+                region0: regions.region0,
+                region1: regions.region1,
+                tables,
+                quad: regions.quad,
+            },
         }
     }
 }

@@ -7,6 +7,7 @@
 
 mod count;
 mod counting;
+mod lane;
 mod laws;
 mod memo;
 

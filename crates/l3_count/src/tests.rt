@@ -1,7 +1,7 @@
 ghost use Rattle.std.specs.Prelude.{◌≡◌, ◌<◌, ◌+◌};
 
 use crate::{Count, Memo, count_at};
-use l3_base::{SampleRate, Spectrum, Steps};
+use l3_base::{Amp, SampleRate, Spectrum, Steps};
 use std::marker::Brand;
 use std::sync::ledger::{Blank, Ledger};
 
@@ -14,22 +14,36 @@ fn spectrum(line: i32) -> Spectrum {
     spec
 }
 
+// One of 1 in band 0 alone, or none.
+fn amplification(first: bool) -> Amp {
+    let mut amp = Amp::zero();
+    if first {
+        amp.set(0, 1);
+    }
+    amp
+}
+
 // Two counts are two steps.
-fn count_twice<L: Ledger + Send>(line: i32, gain: u8, steps: &mut Steps<L>) -> Option<Count>
+fn count_twice<L: Ledger + Send>(
+    line: i32,
+    amp: &Amp,
+    gain: u8,
+    steps: &mut Steps<L>,
+) -> Option<Count>
     ensures { steps.new ≡ steps.old + 2 }
 {
     let spec = spectrum(line);
-    let _first = count_at(&spec, SampleRate::Hz44100, gain, steps);
-    count_at(&spec, SampleRate::Hz44100, gain, steps)
+    let _first = count_at(&spec, SampleRate::Hz44100, amp, gain, steps);
+    count_at(&spec, SampleRate::Hz44100, amp, gain, steps)
 }
 
-fn count_one_line<L: Ledger + Send>(blank: Blank, line: i32, gain: u8) -> Option<Count>
+fn count_one_line<L: Ledger + Send>(blank: Blank, line: i32, first: bool, gain: u8) -> Option<Count>
     requires name { blank.name ≡ L.name }
     requires parts { blank.parts ≡ L.parts }
     requires some { 0 < blank.parts }
 {
     let mut steps: Steps<L> = Steps::start(blank);
-    count_twice(line, gain, &mut steps)
+    count_twice(line, &amplification(first), gain, &mut steps)
 }
 
 fn bits_of(count: Option<Count>) -> Option<u32> {
@@ -39,33 +53,55 @@ fn bits_of(count: Option<Count>) -> Option<u32> {
     }
 }
 
+// An amplification of 1 is two steps of gain.
 #[test]
 fn bits_of_one_line(rt: HostRuntime) {
     let cases = [
-        (16777216, 152, Some(20)),
-        (16777216, 141, Some(22)),
-        (16777216, 140, None),
-        (0, 0, Some(0)),
+        (16777216, false, 152, Some(20)),
+        (16777216, false, 141, Some(22)),
+        (16777216, false, 140, None),
+        (16777216, true, 154, Some(20)),
+        (16777216, true, 143, Some(22)),
+        (16777216, true, 142, None),
+        (0, true, 0, Some(0)),
     ];
-    for (line, gain, bits) in cases {
+    for (line, first, gain, bits) in cases {
         assert_eq!(rt;
-            bits_of(count_one_line::<Brand>(Blank::new(1), line, gain)),
+            bits_of(count_one_line::<Brand>(Blank::new(1), line, first, gain)),
             bits,
-            "at {line}, {gain}"
+            "at {line}, {first}, {gain}"
         );
     }
 }
 
+// Puts the count at a gain into a lane that has no amplification.
+fn put(memo: &mut Memo, lane: u8, gain: u8) {
+    if lane < 4 {
+        if let Some(count) = count_one_line::<Brand>(Blank::new(1), 16777216, false, gain) {
+            if count.amp() == memo.amp(lane) {
+                memo.put(lane, count);
+            }
+        }
+    }
+}
+
+// The count at gain 152 of lane 0, and what it and lane 3 have at it and beside it.
 #[test]
 fn a_count_in_a_memo(rt: HostRuntime) {
     let mut memo = Memo::new();
-    assert_eq!(rt; bits_of(memo.get(152)), None);
-    if let Some(count) = count_one_line::<Brand>(Blank::new(1), 16777216, 152) {
-        memo.put(count);
-    }
-    assert_eq!(rt; bits_of(memo.get(152)), Some(20));
-    assert_eq!(rt; bits_of(memo.get(153)), None);
+    let zero = Amp::zero();
+    assert_eq!(rt; bits_of(memo.get(0, 152)), None);
+    put(&mut memo, 0, 152);
+    assert_eq!(rt; bits_of(memo.get(0, 152)), Some(20));
+    assert_eq!(rt; bits_of(memo.get(0, 153)), None);
+    assert_eq!(rt; bits_of(memo.get(3, 152)), None);
+    memo.turn_to(0, &zero);
+    assert_eq!(rt; bits_of(memo.get(0, 152)), Some(20));
+    memo.turn_to(0, &amplification(true));
+    assert_eq!(rt; bits_of(memo.get(0, 152)), None);
+    put(&mut memo, 3, 152);
     memo.clear();
-    assert_eq!(rt; bits_of(memo.get(152)), None);
-    assert!(rt; size_of_val(&memo) <= 4096);
+    assert_eq!(rt; bits_of(memo.get(3, 152)), None);
+    assert!(rt; memo.amp(0) == zero);
+    assert!(rt; size_of_val(&memo) <= 16384);
 }

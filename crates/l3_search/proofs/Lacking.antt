@@ -5,9 +5,9 @@ use Rattle.std.proofs.lemmas.List.FromFn.{length-range_with_len}
 use Rattle.std.proofs.lemmas.List.Sums.{count_by-le-length, sum_by-cons, sum_by_push}
 use Rattle.l3_quant.specs.Gains.{first_gain_of}
 use Rattle.l3_count.specs.Count.{Counted}
-use Rattle.l3_count.specs.Memo.{memo_at, no_counts}
+use Rattle.l3_count.specs.Memo.{kept_at, no_counts}
 use Rattle.l3_count.proofs.Counts.{count_from_the_first_gain}
-use Rattle.l3_count.proofs.Memos.{memo_at-no_counts}
+use Rattle.l3_count.proofs.Memos.{kept_at-no_counts}
 use Rattle.l3_search.specs.Gain.{lacking, picked_gain}
 use Rattle.l3_search.specs.Laws.{CountedLacksNone, EmptyLacksTried, LacksAtMostTried}
 
@@ -37,24 +37,24 @@ count_by-range_none p a (suc n) h =
     omega arith
 
 -- at one gain
-pub lacking-one : (memo : List (Option Counted)) (gain : ℕ) → lacking memo gain gain ≡ cond (is_none (memo_at memo gain)) 1 0
+pub lacking-one : (memo : List (Option Counted)) (gain : ℕ) → lacking memo gain gain ≡ cond (is_none (kept_at memo gain)) 1 0
 unfolding lacking
 lacking-one memo gain = let one : gain + 1 - gain ≡ 1 = omega arith in rw one (omega arith)
 
-pub lacking-one_there : (memo : List (Option Counted)) (gain : ℕ) (c : Counted) → memo_at memo gain ≡ Some c → 0 ≡ lacking memo gain gain
+pub lacking-one_there : (memo : List (Option Counted)) (gain : ℕ) (c : Counted) → kept_at memo gain ≡ Some c → 0 ≡ lacking memo gain gain
 lacking-one_there memo gain c e = sym (lacking-one memo gain ∙ ap (λ (o : Option Counted). cond (is_none o) 1 0) e)
 
-pub lacking-one_none : (memo : List (Option Counted)) (gain : ℕ) → memo_at memo gain ≡ None → 1 ≡ lacking memo gain gain
+pub lacking-one_none : (memo : List (Option Counted)) (gain : ℕ) → kept_at memo gain ≡ None → 1 ≡ lacking memo gain gain
 lacking-one_none memo gain e = sym (lacking-one memo gain ∙ ap (λ (o : Option Counted). cond (is_none o) 1 0) e)
 
-pub lacking-one_same : (memo other : List (Option Counted)) (gain : ℕ) → memo_at memo gain ≡ memo_at other gain → lacking memo gain gain ≡ lacking other gain gain
+pub lacking-one_same : (memo other : List (Option Counted)) (gain : ℕ) → kept_at memo gain ≡ kept_at other gain → lacking memo gain gain ≡ lacking other gain gain
 lacking-one_same memo other gain e = lacking-one memo gain ∙ (ap (λ (o : Option Counted). cond (is_none o) 1 0) e ∙ sym (lacking-one other gain))
 
 -- up to one gain more
 pub lacking-more : (memo : List (Option Counted)) (first last : ℕ) → first ≤ last + 1 → lacking memo first (last + 1) ≡ lacking memo first last + lacking memo (last + 1) (last + 1)
 unfolding lacking
 lacking-more memo first last le =
-    let p : ℕ → Bool = λ gain. is_none (memo_at memo gain) in
+    let p : ℕ → Bool = λ gain. is_none (kept_at memo gain) in
     let f : ℕ → ℕ = λ x. cond (p x) 1 0 in
     let n = last + 1 - first in
     let long : last + 1 + 1 - first ≡ suc n = omega arith in
@@ -70,24 +70,24 @@ pub lacking-le : (memo : List (Option Counted)) (first last : ℕ) → lacking m
 unfolding lacking
 lacking-le memo first last =
     let n = last + 1 - first in
-    omega (arith, count_by-le-length (λ gain. is_none (memo_at memo gain)) (range_with_len first n), length-range_with_len first n)
+    omega (arith, count_by-le-length (λ gain. is_none (kept_at memo gain)) (range_with_len first n), length-range_with_len first n)
 
 pub lacking-no_counts : (first last : ℕ) → lacking no_counts first last ≡ last + 1 - first
 unfolding lacking
 lacking-no_counts first last =
-    count_by-range_all (λ gain. is_none (memo_at no_counts gain)) first (last + 1 - first) (λ k. ap (λ (o : Option Counted). is_none o) (memo_at-no_counts k))
+    count_by-range_all (λ gain. is_none (kept_at no_counts gain)) first (last + 1 - first) (λ k. ap (λ (o : Option Counted). is_none o) (kept_at-no_counts k))
 
 pub empty_lacks_tried : EmptyLacksTried
-empty_lacks_tried edges lines budget = lacking-no_counts (first_gain_of lines) (picked_gain edges lines budget)
+empty_lacks_tried edges amp lines budget = lacking-no_counts (first_gain_of edges amp lines) (picked_gain edges amp lines budget)
 
 pub lacks_at_most_tried : LacksAtMostTried
-lacks_at_most_tried edges lines budget memo = lacking-le memo (first_gain_of lines) (picked_gain edges lines budget)
+lacks_at_most_tried edges amp lines budget memo = lacking-le memo (first_gain_of edges amp lines) (picked_gain edges amp lines budget)
 
 pub counted_lacks_none : CountedLacksNone
 unfolding lacking
-counted_lacks_none edges lines last most before after within top has =
-    let first = first_gain_of lines in
-    count_by-range_none (λ gain. is_none (memo_at after gain)) first (last + 1 - first) (λ k low high. there k low (omega arith))
+counted_lacks_none edges amp lines last most before after within top has =
+    let first = first_gain_of edges amp lines in
+    count_by-range_none (λ gain. is_none (kept_at after gain)) first (last + 1 - first) (λ k low high. there k low (omega arith))
   where
-    there : (k : ℕ) → first_gain_of lines ≤ k → k ≤ last → is_none (memo_at after k) ≡ false
-    there k low high = ap (λ (o : Option Counted). is_none o) (has.counts k low (omega arith) ∙ count_from_the_first_gain edges lines k (omega arith) low)
+    there : (k : ℕ) → first_gain_of edges amp lines ≤ k → k ≤ last → is_none (kept_at after k) ≡ false
+    there k low high = ap (λ (o : Option Counted). is_none o) (has.counts k low (omega arith) ∙ count_from_the_first_gain edges amp lines k (omega arith) low)

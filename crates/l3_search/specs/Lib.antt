@@ -1,6 +1,8 @@
+pub use Rattle.l3_count.specs.Amp
 pub use Rattle.l3_count.specs.Rates
 pub use Rattle.l3_count.specs.Spectrum
 pub use Rattle.l3_count.specs.Quantiser
+pub use Rattle.l3_count.specs.Amplified
 pub use Rattle.l3_count.specs.Gains
 pub use Rattle.l3_count.specs.Tables
 pub use Rattle.l3_count.specs.Bands

@@ -1,7 +1,7 @@
 ghost use Rattle.std.specs.Prelude.{◌≡◌, ◌<◌};
 
 use crate::{Memo, Picked, pick};
-use l3_base::{SampleRate, Spectrum, Steps};
+use l3_base::{Amp, SampleRate, Spectrum, Steps};
 use l3_quant::first_gain;
 use std::marker::Brand;
 use std::sync::ledger::{Blank, Ledger};
@@ -29,9 +29,32 @@ fn picks<L: Ledger + Send>(blank: Blank, line: i32, budget: u32, next: u32) -> [
     let spec = spectrum(line);
     let mut memo = Memo::new();
     let mut steps: Steps<L> = Steps::start(blank);
-    let first = pick(&spec, SampleRate::Hz44100, budget, &mut memo, &mut steps);
-    let second = pick(&spec, SampleRate::Hz44100, next, &mut memo, &mut steps);
+    let amp = Amp::zero();
+    let rate = SampleRate::Hz44100;
+    let first = pick(&spec, rate, &amp, 0, budget, &mut memo, &mut steps);
+    let second = pick(&spec, rate, &amp, 0, next, &mut memo, &mut steps);
     [numbers(&first), numbers(&second)]
+}
+
+// What is picked at 44100 Hz for 21 bits in lane 0 without amplification, then in lane 1 with 1 in
+// band 0, which is two steps of gain, and then in lane 0 again.
+fn picks_in_two_lanes<L: Ledger + Send>(blank: Blank) -> [(u8, u32, u16); 3]
+    requires name { blank.name ≡ L.name }
+    requires parts { blank.parts ≡ L.parts }
+    requires some { 0 < blank.parts }
+{
+    let spec = spectrum(16777216);
+    let mut memo = Memo::new();
+    let mut steps: Steps<L> = Steps::start(blank);
+    let zero = Amp::zero();
+    let mut amp = Amp::zero();
+    amp.set(0, 1);
+    let rate = SampleRate::Hz44100;
+    let first = pick(&spec, rate, &zero, 0, 21, &mut memo, &mut steps);
+    memo.turn_to(1, &amp);
+    let second = pick(&spec, rate, &amp, 1, 21, &mut memo, &mut steps);
+    let third = pick(&spec, rate, &zero, 0, 21, &mut memo, &mut steps);
+    [numbers(&first), numbers(&second), numbers(&third)]
 }
 
 #[test]
@@ -48,4 +71,12 @@ fn pick_with_a_memo(rt: HostRuntime) {
             "at {line}"
         );
     }
+}
+
+#[test]
+fn pick_in_lane_1_after_lane_0(rt: HostRuntime) {
+    assert_eq!(rt;
+        picks_in_two_lanes::<Brand>(Blank::new(1)),
+        [(152, 20, 12), (154, 20, 12), (152, 20, 0)]
+    );
 }

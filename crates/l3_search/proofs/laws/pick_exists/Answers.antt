@@ -1,4 +1,4 @@
-use Rattle.l3_search.proofs.Fits.{pick_there}
+use Rattle.l3_search.proofs.Fits.{pick_there, picks_at_one_gain}
 use Rattle.l3_search.proofs.Lacking.{counted_lacks_none, empty_lacks_tried, lacks_at_most_tried}
 use Rattle.l3_search.proofs.laws.pick_exists.Goals as goal
 
@@ -13,3 +13,6 @@ returns-clause-most c = lacks_at_most_tried
 
 pub returns-clause-again : goal.returns-clause-again
 returns-clause-again c = counted_lacks_none
+
+pub returns-clause-one_gain : goal.returns-clause-one_gain
+returns-clause-one_gain c = picks_at_one_gain

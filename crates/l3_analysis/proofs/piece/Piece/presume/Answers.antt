@@ -16,9 +16,9 @@ invariant_of-self-in-Stereo g c =
     let one = c.presume.ensures in
     let two = c.presume-in-Stereo.ensures in
     record {
-      one = analysis-with_memo p.settings.sample_rate p.window.left p.left c.presume.new.self left one.spectrum one.demand one.kept;
+      one = analysis-with_memo p.settings.sample_rate p.window.left p.left c.presume.new.self left one.spectrum one.demand one.kept one.memo.amp_is;
       two = second-is p.settings.channels Presumed p.settings.sample_rate p.window.right c.presume-in-Stereo.new.self c.in-Stereo.is
-          (analysis-with_memo p.settings.sample_rate p.window.right p.right c.presume-in-Stereo.new.self right two.spectrum two.demand two.kept);
+          (analysis-with_memo p.settings.sample_rate p.window.right p.right c.presume-in-Stereo.new.self right two.spectrum two.demand two.kept two.memo.amp_is);
     }
 
 pub returns-in-Mono-clause-presumed : goal.returns-in-Mono-clause-presumed

@@ -1,5 +1,6 @@
-use Rattle.l3_count.proofs.Memos.{no_counts-memo}
+use Rattle.std.proofs.Common.{arith}
+use Rattle.l3_count.proofs.Memos.{emptied_memo}
 use Rattle.l3_count.proofs.memo.Memo.clear.Goals as goal
 
-pub invariant_of-self : goal.invariant_of-self
-invariant_of-self c = rw c.none-counts.ensures no_counts-memo
+pub returns : goal.returns
+returns c = emptied_memo c.loop-lane.self-inside.lanes c.loop-lane.invariant.memo (λ k lt. c.loop-lane.invariant.emptied k (omega arith))
