@@ -9,7 +9,9 @@ use Rattle.l3_base.specs.declared.settings.Settings.{Settings}
 use Rattle.l3_base.proofs.ChoosingLemmas.{least_passing-least}
 use Rattle.l3_count.specs.Count.{Counted, counted}
 use Rattle.l3_count.specs.Laws.{IsCountOf}
-use Rattle.l3_count.proofs.Counts.{count_of-some, what_is_taken}
+use Rattle.l3_base.specs.Amp.{no_amp}
+use Rattle.l3_count.proofs.Counts.{count_of-some_at_one_gain, what_is_taken}
+use Rattle.l3_quant.proofs.BandLemmas.{one_gain_without_amp}
 use Rattle.l3_quant.specs.Quantiser.{IsCodable, quantised, quantised_lines}
 use Rattle.l3_region.specs.Bands.{edge_at}
 use Rattle.l3_region.specs.Laws.{HoldsAll, MayTake, pairs_taken}
@@ -171,7 +173,7 @@ quads_of_count q big quads one two =
 -- ---- the unit
 
 -- the unit of a count and of the values that it counts, at most 4095 bits of them
-pub coded_of_count : (st : Settings) (q : List ℤ) (gain : ℕ) (c : Counted) → length q ≡ 576 → gain ≤ 255 → c.bits ≤ 4095 → length c.tables ≡ 3 → IsCountOf (band_edges st.sample_rate) q gain c →
+pub coded_of_count : (st : Settings) (q : List ℤ) (gain : ℕ) (c : Counted) → length q ≡ 576 → gain ≤ 255 → c.bits ≤ 4095 → length c.tables ≡ 3 → IsCountOf (band_edges st.sample_rate) no_amp q gain c →
     IsCodedUnit st (unit_of c q)
 unfolding pairs_of quads_of
 coded_of_count st q gain c long most few three is =
@@ -219,7 +221,7 @@ coded_of_count st q gain c long most few three is =
       bits = omega (arith, unit_length st u, bits, first, second, sum);
     }
 
-three_tables : (edges : List ℕ) (gain : ℕ) (q : List ℤ) → length (counted edges gain q).tables ≡ 3
+three_tables : (edges : List ℕ) (gain : ℕ) (q : List ℤ) → length (counted edges no_amp gain q).tables ≡ 3
 unfolding counted regions_of
 three_tables edges gain q = refl
 
@@ -227,10 +229,13 @@ quantised-long : (gain : ℕ) (lines : List ℤ) → length lines ≡ 576 → le
 quantised-long gain lines long = length-map lines (quantised (pos gain)) ∙ long
 
 -- at a gain where the spectrum is codable
-pub coded_at_gain : (st : Settings) (gain : ℕ) (lines : List ℤ) → length lines ≡ 576 → gain ≤ 255 → IsCodable (pos gain) lines →
-    (counted (band_edges st.sample_rate) gain (quantised_lines (pos gain) lines)).bits ≤ 4095 → IsCodedUnit st (unit_at_gain st gain lines)
+pub coded_at_gain : (st : Settings) (gain : ℕ) (lines : List ℤ) → length lines ≡ 576 → gain ≤ 255 → IsCodable (quantised_lines (pos gain) lines) →
+    (counted (band_edges st.sample_rate) no_amp gain (quantised_lines (pos gain) lines)).bits ≤ 4095 → IsCodedUnit st (unit_at_gain st gain lines)
 coded_at_gain st gain lines long most codable few =
     let edges = band_edges st.sample_rate in
     let q = quantised_lines (pos gain) lines in
-    coded_of_count st q gain (counted edges gain q) (quantised-long gain lines long) most few (three_tables edges gain q)
-    (what_is_taken edges lines gain (counted edges gain q) (count_of-some edges lines gain codable))
+    let c = counted edges no_amp gain q in
+    let P : List ℤ → Type 0 = λ values. IsCountOf edges no_amp values gain c in
+    coded_of_count st q gain c (quantised-long gain lines long) most few (three_tables edges gain q)
+    (subst P (one_gain_without_amp edges (pos gain) lines)
+    (what_is_taken edges no_amp lines gain c (count_of-some_at_one_gain edges lines gain codable)))

@@ -1,6 +1,7 @@
 -- What a unit and a granule take, by what the code finds of them.
 use Rattle.std.proofs.Common.{◌≡◌, ◌∙◌, sym, ap, refl, ℕ, ◌+◌, List, [], ◌∷◌, length, slice_set, arith}
 use Rattle.std.specs.Prelude.{ℤ}
+use Rattle.l3_base.specs.Amp.{no_amp}
 use Rattle.l3_base.specs.declared.settings.Settings.{Settings}
 use Rattle.l3_base.specs.declared.rate.Channels.{Channels}
 use Rattle.l3_base.specs.declared.rate.Channels.TheVariants.{Mono, Stereo}
@@ -21,14 +22,14 @@ pub record IsTaken (st : Settings) (n reserve : ℕ) (lines : List ℤ) (u : Uni
   pub tried_is : tried ≡ unit_tried st n reserve lines
 
 pub unit-taken : (st : Settings) (n reserve budget : ℕ) (lines : List ℤ) (u : Unit) (after tried : ℕ) → budget ≡ budget_at st n reserve lines → u ≡ unit_within st budget lines
-    → after ≡ left_by reserve (mean_bits_of st n) u.length → tried ≡ tried_of (band_edges st.sample_rate) lines budget → IsTaken st n reserve lines u after tried
+    → after ≡ left_by reserve (mean_bits_of st n) u.length → tried ≡ tried_of (band_edges st.sample_rate) no_amp lines budget → IsTaken st n reserve lines u after tried
 unfolding after_unit unit_tried
 unit-taken st n reserve budget lines u after tried budget_is unit_is after_is tried_is =
     let is : u ≡ unit_chosen st n reserve lines = unit_is ∙ ap (λ k. unit_within st k lines) budget_is in
     record {
       unit_is = is;
       after_is = after_is ∙ ap (λ (v : Unit). left_by reserve (mean_bits_of st n) v.length) is;
-      tried_is = tried_is ∙ ap (λ k. tried_of (band_edges st.sample_rate) lines k) budget_is;
+      tried_is = tried_is ∙ ap (λ k. tried_of (band_edges st.sample_rate) no_amp lines k) budget_is;
     }
 
 pub both-set : {A : Type 0} (us : List A) (u v : A) → length us ≡ 2 → slice_set (slice_set us 0 u) 1 v ≡ u ∷ v ∷ []

@@ -1,6 +1,7 @@
 -- How many gains the choice of frames tries: for each
 -- unit those from its first gain to the picked one.
 use Rattle.std.specs.Prelude.{ℕ, zero, suc, ◌+◌, ◌*◌, List, ℤ}
+use Rattle.l3_base.specs.Amp.{no_amp}
 use Rattle.l3_base.specs.declared.settings.Settings.{Settings}
 use Rattle.l3_base.specs.declared.rate.Channels.{Channels}
 use Rattle.l3_base.specs.declared.rate.Channels.TheVariants.{Mono, Stereo}
@@ -10,7 +11,7 @@ use Rattle.l3_commit.specs.Choice.{Spectra, budget_at, after_unit, reserve_at_st
 
 -- at a unit of frame n
 unfoldable pub unit_tried : Settings → (n reserve : ℕ) → List ℤ → ℕ
-unit_tried st n reserve lines = tried_of (band_edges st.sample_rate) lines (budget_at st n reserve lines)
+unit_tried st n reserve lines = tried_of (band_edges st.sample_rate) no_amp lines (budget_at st n reserve lines)
 
 -- at a granule of frame n
 abbrev pub granule_tried_by : Channels → Settings → (n reserve : ℕ) → (ℕ → List ℤ) → ℕ

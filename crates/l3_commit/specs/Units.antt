@@ -1,6 +1,7 @@
 -- What a unit takes within a budget: the count at the
 -- picked gain, and the quantised values that it counts.
 use Rattle.std.specs.Prelude.{◌≡◌, ◌≤◌, ℕ, List, length, Some, ℤ, pos, All}
+use Rattle.l3_base.specs.Amp.{no_amp}
 use Rattle.l3_base.specs.Spectrum.{IsLine}
 use Rattle.l3_base.specs.declared.settings.Settings.{Settings}
 use Rattle.l3_count.specs.Count.{Counted, count_of, counted}
@@ -24,24 +25,25 @@ unit_of c values = record {
   lines = values;
 }
 
--- the unit of a spectrum's lines at a gain
+-- the unit of a spectrum's lines at a gain, no band being amplified
 abbrev pub unit_at_gain : Settings → ℕ → List ℤ → Unit
-unit_at_gain st gain lines = unit_of (counted (band_edges st.sample_rate) gain (quantised_lines (pos gain) lines)) (quantised_lines (pos gain) lines)
+unit_at_gain st gain lines =
+    unit_of (counted (band_edges st.sample_rate) no_amp gain (quantised_lines (pos gain) lines)) (quantised_lines (pos gain) lines)
 
 -- the unit of a spectrum's lines within a budget: at the least gain whose count is within it
 unfoldable pub unit_within : Settings → ℕ → List ℤ → Unit
-unit_within st budget lines = unit_at_gain st (picked_gain (band_edges st.sample_rate) lines budget) lines
+unit_within st budget lines = unit_at_gain st (picked_gain (band_edges st.sample_rate) no_amp lines budget) lines
 
--- a count is one of a spectrum at its own gain, for the edges of some bands
+-- a count is one of a spectrum at its own gain, for the edges of some bands, of which none is amplified
 abbrev pub IsCountIn : List ℤ → Counted → Type 0
-IsCountIn lines c = (edges : List ℕ) × (count_of edges lines c.gain ≡ Some c)
+IsCountIn lines c = (edges : List ℕ) × (count_of edges no_amp lines c.gain ≡ Some c)
 
 -- a unit is coded, within a budget, at the picked
 -- gain, and its lines are the quantised values there
 pub record IsChosenUnit (st : Settings) (budget : ℕ) (lines : List ℤ) (u : Unit) : Type 0 where
   pub coded : IsCodedUnit st u
   pub within : u.length ≤ budget
-  pub gain_is : u.gain ≡ picked_gain (band_edges st.sample_rate) lines budget
+  pub gain_is : u.gain ≡ picked_gain (band_edges st.sample_rate) no_amp lines budget
   pub lines_are : u.lines ≡ quantised_lines (pos u.gain) lines
 
 -- the unit of each spectrum within each budget that the field of part2_3_length has room for

@@ -1,4 +1,5 @@
 ghost use Rattle.std.specs.Prelude.{◌≡◌, ◌+◌, ◌≤◌, ◌<◌, ◌^◌, ◌∷◌, []};
+ghost use Rattle.l3_base.specs.Amp.{no_amp};
 ghost use Rattle.l3_base.specs.Lengths.{mean_bits_of};
 ghost use Rattle.l3_base.specs.Spectrum.{IsSpectrum};
 ghost use Rattle.l3_reservoir.specs.Budget.{left_by};
@@ -11,7 +12,7 @@ ghost use Rattle.l3_commit.specs.Tried.{unit_tried, granule_tried};
 ghost use Rattle.l3_commit.specs.Encoding.{of_channel};
 
 use crate::unit::write_unit;
-use l3_base::{Channels, Settings, Spectrum, Steps};
+use l3_base::{Amp, Channels, Settings, Spectrum, Steps};
 use l3_energy::demand;
 use l3_reservoir::Reserve;
 use l3_search::{Memo, pick};
@@ -59,14 +60,14 @@ fn choose<L: Ledger + Send>(
     ensures spectrum { IsSpectrum spec.now }
     ensures rest { reserve.new ≡ left_by reserve.old (mean_bits_of place.settings place.frame) unit.new.length }
     ensures small { reserve.new < reserve.old + 2 ^ 32 }
-    ensures tried { result ≡ tried_of (band_edges place.settings.sample_rate) spec.now budget }
+    ensures tried { result ≡ tried_of (band_edges place.settings.sample_rate) no_amp spec.now budget }
     ensures few { result ≤ 256 }
     ensures ticks { steps.new ≡ steps.old + result }
 {
     memo.clear();
     // For the proof alone: that the spectrum has its shape and range.
     let _lines = spec.lines();
-    let picked = pick(spec, place.settings.sample_rate, budget, memo, steps);
+    let picked = pick(spec, place.settings.sample_rate, &Amp::zero(), 0, budget, memo, steps);
     reserve.spend(&place.settings, place.frame, picked.count.bits());
     write_unit(spec, &picked.count, unit);
     picked.made

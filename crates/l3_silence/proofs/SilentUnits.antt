@@ -1,7 +1,8 @@
 -- The unit of lines that are 0 is blank, whatever its budget.
 use Rattle.std.proofs.Common.{◌≡◌, refl, sym, ap, subst, ◌∙◌, ℕ, zero, suc, ◌+◌, List, [], ◌∷◌, replicate, map, get_or, arith}
-use Rattle.std.specs.Prelude.{ℤ, pos, slice_range}
+use Rattle.std.specs.Prelude.{ℤ, pos, slice_range, unsigned_abs}
 use Rattle.std.proofs.lemmas.List.{get_or-replicate, length-replicate}
+use Rattle.l3_base.specs.Amp.{no_amp}
 use Rattle.l3_base.specs.declared.settings.Settings.{Settings}
 use Rattle.l3_quant.specs.Quantiser.{IsCodable, magnitude, quantised, quantised_lines, steps_of}
 use Rattle.l3_quant.proofs.Codable.{magnitude_at-zero}
@@ -13,7 +14,7 @@ use Rattle.l3_region.proofs.Chosen.{grid, grid-at, grid-long, is_pair, pair_for-
 use Rattle.l3_region.proofs.Fewest.{zero_bits, zero_table}
 use Rattle.l3_region.proofs.Ranges.{All-slice}
 use Rattle.l3_count.specs.Count.{counted}
-use Rattle.l3_count.proofs.Counts.{count_of-some}
+use Rattle.l3_count.proofs.Counts.{count_of-some_at_one_gain}
 use Rattle.l3_count.proofs.Tops.{zeros-bits, zeros-split}
 use Rattle.l3_search.specs.Gain.{picked_gain}
 use Rattle.l3_search.proofs.Fits.{picked_gain-is}
@@ -49,10 +50,13 @@ quantised-lines : quantised_lines (pos 0) (zero_lines 576) ≡ zero_lines 576
 unfolding zero_lines
 quantised-lines = mapped-zero (quantised (pos 0)) 576 quantised-zero
 
-codable-zero : IsCodable (pos 0) (zero_lines 576)
-codable-zero = λ k d lt.
-    let here : magnitude (pos 0) (get_or (zero_lines 576) k d) ≡ 0 = ap (magnitude (pos 0)) (lines-zero k d lt) ∙ magnitude-zero in
-    omega arith
+codable-zero : IsCodable (quantised_lines (pos 0) (zero_lines 576))
+codable-zero = subst IsCodable (sym quantised-lines) zeros
+  where
+    zeros : IsCodable (zero_lines 576)
+    zeros = λ k d lt.
+        let here : unsigned_abs (get_or (zero_lines 576) k d) ≡ 0 = ap unsigned_abs (lines-zero k d lt) in
+        omega arith
 
 -- ---- regions and tables
 
@@ -104,7 +108,7 @@ blank-by : (bits big quads region0 region1 : ℕ) (tables : List ℕ) (quad : Qu
 unfolding blank
 blank-by bits big quads region0 region1 tables quad e1 e2 e3 e4 e5 e6 e7 = rw (e1, e2, e3, e4, e5, e6, e7) refl
 
-unit-zero : (edges : List ℕ) → unit_of (counted edges 0 (zero_lines 576)) (zero_lines 576) ≡ blank
+unit-zero : (edges : List ℕ) → unit_of (counted edges no_amp 0 (zero_lines 576)) (zero_lines 576) ≡ blank
 unfolding counted regions_of
 unit-zero edges =
     let q = zero_lines 576 in
@@ -114,20 +118,20 @@ unit-zero edges =
     (zeros-bits edges q lines-zero) (sym split.0) (sym split.1) (ap (λ (p : ℕ × ℕ). p.0) pair) (ap (λ (p : ℕ × ℕ). p.1) pair)
     (tables-zero edges q (pair_for edges q) lines-zero) (quad-zero q split.0 split.1)
 
-bits-zero : (edges : List ℕ) (q : List ℤ) → AreZero q → (counted edges 0 q).bits ≡ 0
+bits-zero : (edges : List ℕ) (q : List ℤ) → AreZero q → (counted edges no_amp 0 q).bits ≡ 0
 unfolding counted
 bits-zero edges q zeros = zeros-bits edges q zeros
 
 -- the least gain has no bits, so that it is within each budget
-gain-zero : (edges : List ℕ) (budget : ℕ) → picked_gain edges (zero_lines 576) budget ≡ 0
+gain-zero : (edges : List ℕ) (budget : ℕ) → picked_gain edges no_amp (zero_lines 576) budget ≡ 0
 gain-zero edges budget =
     let q = quantised_lines (pos 0) (zero_lines 576) in
-    let c = counted edges 0 q in
+    let c = counted edges no_amp 0 q in
     let none : c.bits ≡ 0 = bits-zero edges q (subst AreZero (sym quantised-lines) lines-zero) in
-    picked_gain-is edges (zero_lines 576) budget 0 c (omega arith) (count_of-some edges (zero_lines 576) 0 codable-zero) (omega (arith, none)) (λ k lt. absurd (omega arith))
+    picked_gain-is edges no_amp (zero_lines 576) budget 0 c (omega arith) (count_of-some_at_one_gain edges (zero_lines 576) 0 codable-zero) (omega (arith, none)) (λ k lt. absurd (omega arith))
 
 pub unit-blank : (st : Settings) (budget : ℕ) → unit_within st budget (zero_lines 576) ≡ blank
 unfolding unit_within
 unit-blank st budget =
     ap (λ g. unit_at_gain st g (zero_lines 576)) (gain-zero (band_edges st.sample_rate) budget)
-    ∙ (ap (λ q. unit_of (counted (band_edges st.sample_rate) 0 q) q) quantised-lines ∙ unit-zero (band_edges st.sample_rate))
+    ∙ (ap (λ q. unit_of (counted (band_edges st.sample_rate) no_amp 0 q) q) quantised-lines ∙ unit-zero (band_edges st.sample_rate))
