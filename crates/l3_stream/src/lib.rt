@@ -2,8 +2,8 @@
 //! frames spell.
 //!
 //! A frame of quantised lines -> whether it can be coded, and where its lines stand: which are
-//! pairs, quadruples and zeros, and which table a pair has. What its bits are, and how they are read
-//! again, is this crate's definitions.
+//! pairs, quadruples and zeros, and which table a pair has. What its bits are, and how they are
+//! read again, is this crate's definitions.
 //! The syntax is that of Layer III (ISO/IEC 11172-3, clause 2.4), as far as the profile has it. The
 //! codes of the units of all frames stand on one row of bits, the tape: the main data of all frames
 //! joined, headers and side information left out.
