@@ -1,5 +1,5 @@
 -- What holds of a piece's channels from stage to stage.
-use Rattle.std.proofs.Common.{◌≡◌, List, ap, ◌∙◌, subst, ℤ}
+use Rattle.std.proofs.Common.{◌≡◌, List, ◌∙◌, subst, ℤ}
 use Rattle.l3_base.specs.declared.rate.Channels.{Channels}
 use Rattle.l3_base.specs.declared.rate.Channels.TheVariants.{Mono, Stereo}
 use Rattle.l3_base.specs.declared.rate.SampleRate.{SampleRate}
@@ -8,8 +8,8 @@ use Rattle.l3_base.specs.Rates.{hertz_index_of}
 use Rattle.l3_mdct.specs.Spectrum.{spectrum_of}
 use Rattle.l3_energy.specs.Demand.{demand_of}
 use Rattle.l3_count.specs.Bands.{band_edges}
-use Rattle.l3_count.specs.Memo.{IsMemoOf, LaneView, empty_memo, lane_of}
-use Rattle.l3_count.proofs.Memos.{IsMemoOf-empty, lane_of-empty}
+use Rattle.l3_count.specs.Memo.{IsMemoOf, empty_memo, lane_of}
+use Rattle.l3_count.proofs.Memos.{IsMemoOf-empty, amp-new}
 use Rattle.l3_analysis.specs.declared.analysis.Analysis.{Analysis}
 use Rattle.l3_analysis.specs.declared.stage.Stage.{Stage}
 use Rattle.l3_analysis.specs.declared.stage.Stage.TheVariants.{Loaded, Transformed}
@@ -33,7 +33,7 @@ analysis-of_empty rate samples a spectrum demand empty =
       spectrum = spectrum;
       demand = demand;
       memo = rw empty (IsMemoOf-empty (band_edges rate) (spectrum_of samples));
-      plain = ap (λ (m : List LaneView). (lane_of m 0).amp) empty ∙ ap (λ (l : LaneView). l.amp) (lane_of-empty 0);
+      plain = amp-new a.memo 0 empty;
     }
 
 -- the same spectrum and demand with another memo of that spectrum

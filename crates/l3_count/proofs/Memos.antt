@@ -103,6 +103,16 @@ IsMemoOf-lane edges lines memo after lane is here others k =
       | inr other ↦ subst (λ (l : LaneView). IsLaneOf edges lines l) (sym (others k other)) (is k)
     ]
 
+-- a memo without a count, by an equation: its lanes are of any spectrum and under no amplification
+pub IsLaneOf-new : (edges : List ℕ) (lines : List ℤ) (memo : List LaneView) (lane : ℕ) → memo ≡ empty_memo → IsLaneOf edges lines (lane_of memo lane)
+IsLaneOf-new edges lines memo lane e = subst (λ (m : List LaneView). IsLaneOf edges lines (lane_of m lane)) (sym e) (IsMemoOf-empty edges lines lane)
+
+pub amp-new : (memo : List LaneView) (lane : ℕ) → memo ≡ empty_memo → (lane_of memo lane).amp ≡ no_amp
+amp-new memo lane e = ap (λ (m : List LaneView). (lane_of m lane).amp) e ∙ ap (λ (l : LaneView). l.amp) (lane_of-empty lane)
+
+pub counts-new : (memo : List LaneView) (lane : ℕ) → memo ≡ empty_memo → (lane_of memo lane).counts ≡ no_counts
+counts-new memo lane e = ap (λ (m : List LaneView). (lane_of m lane).counts) e ∙ ap (λ (l : LaneView). l.counts) (lane_of-empty lane)
+
 -- a memo of which one lane was emptied and turned to an amplification
 pub turned-amp : (memo : List LaneView) (at lane : ℕ) (l : LaneView) (amp : List ℕ) → length memo ≡ 4 → lane < 4 → at ≡ lane → l ≡ empty_lane amp →
     (lane_of (set memo at l) lane).amp ≡ amp

@@ -1,4 +1,4 @@
-//! A spectrum and a gain -> what the unit costs there; the memo of such counts.
+//! A spectrum, an amplification and a gain -> what the unit costs there; the memo of such counts.
 //!
 //! The quantised values of one channel of one granule at a `global_gain` -> their split, regions
 //! and tables, and the bits of all their codes.

@@ -62,6 +62,7 @@ impl Memo {
         ensures same { (lane_of self.old lane).amp ≡ amp.now → self.new ≡ self.old }
         ensures other { (lane_of self.old lane).amp ≢ amp.now → self.new ≡ slice_set self.old lane (empty_lane amp.now) }
         ensures amp { (lane_of self.new lane).amp ≡ amp.now }
+        ensures others { (k : ℕ) → k ≢ lane → lane_of self.new k ≡ lane_of self.old k }
         ensures memo { IsMemo self.new }
         ensures kept { (edges : List ℕ) (lines : List ℤ) → IsMemoOf edges lines self.old → IsMemoOf edges lines self.new }
     {

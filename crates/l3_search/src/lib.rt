@@ -1,7 +1,7 @@
-//! A spectrum and a budget -> the count at the least gain that is within it.
+//! A spectrum, an amplification and a budget -> the count at the least gain that is within it.
 //!
-//! Gain after gain from the first one on, each counted at most once for a spectrum, since a memo
-//! keeps what was counted.
+//! Gain after gain from the first one on, each counted at most once for a spectrum and an
+//! amplification, since a lane of a memo keeps what was counted.
 //! Before: counts at one gain; after: pieces of work, which guess a budget, and the committer,
 //! which knows it.
 #![tactic(auto)]

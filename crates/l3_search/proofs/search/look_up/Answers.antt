@@ -1,4 +1,4 @@
-use Rattle.std.proofs.Common.{◌≡◌, Some, List, ℕ, sym, ap, ◌∙◌}
+use Rattle.std.proofs.Common.{List, ℕ, sym, ap, ◌∙◌}
 use Rattle.l3_count.specs.Bands.{band_edges}
 use Rattle.l3_count.specs.Count.{count_of}
 use Rattle.l3_count.specs.Memo.{lane_of}

@@ -2,9 +2,20 @@ use Rattle.std.proofs.Common.{◌≡◌, ℕ, ◌/◌, refl, sym, ap, ◌∙◌,
 use Rattle.l3_analysis.specs.declared.stage.Stage.TheVariants.{Transformed, Presumed}
 use Rattle.l3_analysis.specs.contracts.piece.Piece.{the_view}
 use Rattle.l3_analysis.specs.Piece.{PieceView}
-use Rattle.l3_analysis.proofs.Stages.{analysis-transformed, analysis-with_memo, second-is, second-stereo}
+use Rattle.l3_analysis.proofs.Stages.{analysis-transformed, analysis-with_memo, second-is, second-mono, second-stereo}
 use Rattle.l3_analysis.proofs.Presuming.{counts-presumed, steps-presumed, presumed-mono, presumed-stereo, presumed_gain-is, presumed_steps-mono, presumed_steps-stereo, reserve_before-first, reserve_before-second}
 use Rattle.l3_analysis.proofs.piece.Piece.presume.Goals as goal
+
+pub invariant_of-self : goal.invariant_of-self
+invariant_of-self g c =
+    let p = c.self.inside in
+    let stage : p.stage ≡ Transformed = ap (λ (v : PieceView). v.stage) c.self.view_is ∙ c.requires in
+    let left = analysis-transformed p.stage p.settings.sample_rate p.window.left p.left stage c.self.invariant.one in
+    let one = c.presume.ensures in
+    record {
+      one = analysis-with_memo p.settings.sample_rate p.window.left p.left c.presume.new.self left one.spectrum one.demand one.kept one.memo.amp_is;
+      two = second-mono p.settings.channels p.stage Presumed p.settings.sample_rate p.window.right p.right c.in-Mono.is c.self.invariant.two;
+    }
 
 pub invariant_of-self-in-Stereo : goal.invariant_of-self-in-Stereo
 invariant_of-self-in-Stereo g c =

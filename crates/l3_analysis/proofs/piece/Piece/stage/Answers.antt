@@ -1,0 +1,9 @@
+use Rattle.std.proofs.Common.{subst}
+use Rattle.l3_analysis.specs.Piece.{IsSound}
+use Rattle.l3_analysis.proofs.Sound.{sound}
+use Rattle.l3_analysis.proofs.piece.Piece.stage.Goals as goal
+
+pub returns-clause-sound : goal.returns-clause-sound
+returns-clause-sound c =
+    let p = c.self.inside in
+    subst IsSound c.self.view_is (sound p.settings p.number p.stage p.guess p.window p.left p.right c.self.invariant)
