@@ -87,12 +87,13 @@ unfoldable pub frames_before : Settings → Spectra → ℕ → List ChosenFrame
 frames_before st spectra zero = []
 frames_before st spectra (suc n) = frames_before st spectra n ++ (frame_chosen st spectra n ∷ [])
 
--- so many frames from frame n on
+-- so many frames from frame n on (only the inside of this crate)
 unfoldable pub frames_chosen_from : Settings → Spectra → (n many : ℕ) → List ChosenFrame
 frames_chosen_from st spectra n zero = []
 frames_chosen_from st spectra n (suc many) = frame_chosen st spectra n ∷ frames_chosen_from st spectra (suc n) many
 
 -- the spectra of the channels that are there are 576 lines, each below 2^29 in absolute value
+-- (only the inside of this crate)
 abbrev pub AreOfChannels : Channels → (ℕ → List ℤ) → Type 0
 AreOfChannels Mono lines = IsSpectrum (lines 0)
 AreOfChannels Stereo lines = IsSpectrum (lines 0) × IsSpectrum (lines 1)

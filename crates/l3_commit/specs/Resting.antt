@@ -7,6 +7,7 @@ use Rattle.l3_commit.specs.contracts.committer.Committer.{the_row as committer_r
 use Rattle.l3_commit.specs.contracts.track.Track.{the_row}
 
 -- the track ends with P, whatever was read of the frame that it lent
+-- (only the inside of this crate)
 abbrev pub RestsTrack : MutBor TrackView → (TrackView → Type 0) → Fml
 RestsTrack s P = Rests the_row s P
 

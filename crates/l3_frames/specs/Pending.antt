@@ -49,6 +49,7 @@ pub record IsShort (w : Writing) : Type 0 where
   pub slots : length w.slots ≤ 1930
 
 -- a writer's state, and the state when this frame was pushed and nothing given
+-- (only the inside of this crate)
 pub record IsPushed (w : Writing) (f : ChosenFrame) (now : Writing) : Type 0 where
   pub settings : now.settings ≡ w.settings
   pub frames : now.frames ≡ w.frames + 1
@@ -60,6 +61,7 @@ pub record IsPushed (w : Writing) (f : ChosenFrame) (now : Writing) : Type 0 whe
 
 -- of `count` frames from frame `first` on the first k, with so many slot bytes, are settled: their
 -- slots end at least 511 bytes before the end of all, and no more do
+-- (only the inside of this crate)
 pub record AreSettled (st : Settings) (first count k bytes : ℕ) : Type 0 where
   pub some : k ≤ count
   pub place : slots_before st first + bytes ≡ slots_before st (first + k)
@@ -67,10 +69,11 @@ pub record AreSettled (st : Settings) (first count k bytes : ℕ) : Type 0 where
   pub most : k < count → slots_before st (first + count) - 511 < slots_before st (suc (first + k))
 
 -- the sink took some bytes of what was owed, and the rest is owed afterwards, whichever frames
--- follow
+-- follow (only the inside of this crate)
 abbrev pub Gives : (old new : List ℕ → Type 0) → (before after : Writing) → Type 0
 Gives old new before after = (x : List ℕ) × Takes old new x × ((fs : List ChosenFrame) → owed before fs ≡ x ++ owed after fs)
 
 -- the sink took a front of what was owed, the same whichever frames follow
+-- (only the inside of this crate)
 abbrev pub GivesPart : (old new : List ℕ → Type 0) → Writing → Type 0
 GivesPart old new before = (x : List ℕ) × Takes old new x × ((fs : List ChosenFrame) → (rest : List ℕ) × (x ++ rest ≡ owed before fs))

@@ -41,6 +41,6 @@ kept_answers tells scores answers =
 abbrev pub guess_of : (scores answers : List ℕ) → ℕ
 guess_of scores answers = slice_index answers (best_place scores)
 
--- the answer of the best of those that are left
+-- the answer of the best of those that are left (only the inside of this crate)
 abbrev pub guess_after : (tells : ℕ) (scores answers : List ℕ) → ℕ
 guess_after tells scores answers = guess_of (after_tell tells scores) (kept_answers tells scores answers)

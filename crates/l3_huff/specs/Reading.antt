@@ -5,7 +5,7 @@ use Rattle.l3_huff.specs.declared.quads.QuadTable.{QuadTable}
 use Rattle.l3_huff.specs.Tables.{codes_of, linbits_of, quad_codes, width_of}
 
 infixl 10 ◌>>=◌
--- to go on with what was read, where something was
+-- to go on with what was read, where something was (only the inside of this crate)
 abbrev pub ◌>>=◌ : {A B : Type 0} → Option A → (A → Option B) → Option B
 None >>= f = None
 (Some x) >>= f = f x

@@ -23,18 +23,18 @@ cell_at place = slice_index CELLS place
 unfoldable pub quad_index_at : ℕ → ℕ
 quad_index_at ahead = slice_index QUAD_INDICES ahead
 
--- the bits of a table's longest code
+-- the bits of a table's longest code (only the inside of this crate)
 abbrev pub longest_of : ℕ → ℕ
 longest_of table = longest_at (base_of table)
 
 -- the code of a row and a column, 16 * row + column being the cell, begins the digits of the
--- number ahead
+-- number ahead (only the inside of this crate)
 pub record IsCellOf (table ahead cell : ℕ) : Type 0 where
   pub row : cell / 16 < width_of table
   pub column : cell % 16 < width_of table
   pub begins : Begins (table_code table (cell / 16) (cell % 16)) (digits (longest_of table) ahead)
 
--- the code of an index begins the digits of the 6 bits ahead
+-- the code of an index begins the digits of the 6 bits ahead (only the inside of this crate)
 pub record IsIndexOf (table : QuadTable) (ahead index : ℕ) : Type 0 where
   pub place : index < 16
   pub begins : Begins (slice_index_or (quad_codes table) index []) (digits 6 ahead)

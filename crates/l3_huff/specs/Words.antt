@@ -10,7 +10,7 @@ with_zeros bytes = bytes ++ 0 ∷ 0 ∷ 0 ∷ []
 abbrev pub between : List ℕ → ℕ → ℕ → List Bool
 between bytes at end = slice_range (bits_of bytes) at end
 
--- reading at bit `at` gave `value` and goes on at `next`
+-- reading at bit `at` gave `value` and goes on at `next` (only the inside of this crate)
 pub record GoesOn {A : Type 0} (read : List Bool → Option (A × List Bool)) (bytes : List ℕ) (at end : ℕ) (value : A) (next : ℕ) : Type 0 where
   pub forward : at ≤ next
   pub within : next ≤ end

@@ -1,4 +1,4 @@
--- One butterfly of the alias reduction.
+-- One butterfly of the alias reduction. Only the inside of this crate speaks of these.
 use Rattle.std.specs.Prelude.{ℕ, ◌+◌, ◌-◌, ◌*◌, List, ℤ, slice_set}
 use Rattle.l3_tables.specs.Lists.{entry}
 use Rattle.l3_mdct.specs.Spectrum.{lower_end, upper_end}

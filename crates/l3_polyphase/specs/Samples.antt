@@ -1,5 +1,5 @@
 -- The samples that a slot takes, the columns they are added up to, and the lists that slots are
--- written to.
+-- written to. Only the inside of this crate speaks of these.
 use Rattle.std.specs.Prelude.{◌≡◌, ℕ, ◌-◌, ◌<◌, List, ℤ, length}
 use Rattle.l3_base.specs.Slots.{subband_in}
 use Rattle.l3_tables.specs.Lists.{entry}

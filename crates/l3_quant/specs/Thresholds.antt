@@ -12,14 +12,15 @@ pub record IsThreshold (n y : ℕ) : Type 0 where
 unfoldable pub threshold_at : ℕ → ℕ
 threshold_at n = slice_index THRESHOLDS n
 
--- what the first number of a block of 1024 reaches
+-- what the first number of a block of 1024 reaches (only the inside of this crate)
 unfoldable pub low_at : ℕ → ℕ
 low_at block = slice_index FIRST block
 
--- what the first number of a block of 8192 reaches
+-- what the first number of a block of 8192 reaches (only the inside of this crate)
 unfoldable pub middle_at : ℕ → ℕ
 middle_at block = slice_index MIDDLE block
 
 -- what the first number of a block of 2^19 from 2^24 on reaches, cut at 8176
+-- (only the inside of this crate)
 unfoldable pub high_at : ℕ → ℕ
 high_at block = slice_index HIGH block

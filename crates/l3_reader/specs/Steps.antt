@@ -14,12 +14,13 @@ use Rattle.l3_reader.specs.declared.tape.Tape.{Tape}
 use Rattle.l3_reader.specs.declared.standing.Standing.{Standing}
 use Rattle.l3_reader.specs.InTurn.{Progress}
 
--- an answer, made of the value where there is one
+-- an answer, made of the value where there is one (only the inside of this crate)
 abbrev pub gives : {A B : Type 0} → (A → B) → Result A StreamFault → Result B StreamFault
 gives made (Ok x) = Ok (made x)
 gives made (Err fault) = Err fault
 
 -- a fault of a frame whose header is the right one and whose bytes are there, or of the bits around its codes
+-- (only the inside of this crate)
 abbrev pub IsWithin : StreamFault → Type 0
 IsWithin (faults.BadSide at) = ⊤
 IsWithin (faults.BadBegin at) = ⊤
@@ -28,11 +29,11 @@ IsWithin (faults.WrongLength bit) = ⊤
 IsWithin (faults.NotZero bit) = ⊤
 IsWithin other = ⊥
 
--- the regions of a unit
+-- the regions of a unit (only the inside of this crate)
 abbrev pub regions_of : Settings → Unit → Regions
 regions_of st u = record { tables = u.tables; second = edge st (u.region0 + 1); third = edge st (u.region0 + u.region1 + 2) }
 
--- the table of the pair that begins at a line
+-- the table of the pair that begins at a line (only the inside of this crate)
 unfoldable pub table_by : Regions → ℕ → ℕ
 table_by r line = slice_index r.tables (if nat_lt line r.second then 0 else if nat_lt line r.third then 1 else 2)
 
@@ -77,10 +78,12 @@ abbrev pub progress_of : Standing → Option StreamFault → Progress
 progress_of s fault = record { limit = s.limit; settings = s.settings; place = place_of s.tape; fault = fault }
 
 -- the bits of a slot of so many bytes that stands behind the bytes kept
+-- (only the inside of this crate)
 abbrev pub slot_of : Tape → ℕ → List Bool
 slot_of t bytes = bits_of (take bytes (drop t.filled t.bytes))
 
 -- main data of so many bits, with this main_data_begin, is within the tape with the next slot, and ends at a bit
+-- (only the inside of this crate)
 pub record GoesTo (st : Settings) (t : Tape) (begin bits end : ℕ) : Type 0 where
   pub reached : begin ≤ slots_before st t.number
   pub after : t.end ≤ start_of st t.number begin
@@ -88,6 +91,7 @@ pub record GoesTo (st : Settings) (t : Tape) (begin bits end : ℕ) : Type 0 whe
   pub within : bits ≤ 8 * (begin + slot_bytes_of st t.number)
 
 -- so many bytes of those that were left were read into the front of a buffer: all that it has room for, or all that were left
+-- (only the inside of this crate)
 pub record ReadsFront (left : List ℕ) (n : ℕ) (buffer : List ℕ) (now : Option (List ℕ)) : Type 0 where
   pub rest : List ℕ
   pub is : now ≡ Some rest
@@ -95,12 +99,14 @@ pub record ReadsFront (left : List ℕ) (n : ℕ) (buffer : List ℕ) (now : Opt
   pub short : n < length buffer → rest ≡ []
 
 -- the bytes that were left begin with these, and the others are left
+-- (only the inside of this crate)
 pub record BeginsWith (left bytes : List ℕ) (now : Option (List ℕ)) : Type 0 where
   pub rest : List ℕ
   pub is : now ≡ Some rest
   pub bytes_are : left ≡ bytes ++ rest
 
 -- no header begins a frame of this number at this byte: a read failed, or one frame is too many, or fewer than 4 bytes are left
+-- (only the inside of this crate)
 abbrev pub NoHeader : StreamFault → ℕ → ℕ → ℕ → List ℕ → Type 0
 NoHeader fault limit number at left =
     (fault ≡ faults.Read) ⊎ (((fault ≡ faults.TooLong at) × (limit ≤ number) × (0 < length left))

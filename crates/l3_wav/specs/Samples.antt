@@ -59,7 +59,7 @@ pub record ReadsValues (before : SamplesState) (left : List ℕ) (n : ℕ) (buff
   pub others : coming (samples_after before n (length buffer)) (left_after before n (length buffer) left) ≡ drop n (coming before left)
 
 -- the values of a block of so many wanted bytes, or of what is there of them, were read into the
--- front of a buffer
+-- front of a buffer (only the inside of this crate)
 pub record ReadsBlock (channels : Channels) (want : ℕ) (left : List ℕ) (count : ℕ) (is_whole : Bool) (buffer : List ℤ) (left_now : Option (List ℕ)) : Type 0 where
   pub bytes : 2 * count ≡ whole_bytes channels (length (take want left))
   pub values : take count buffer ≡ values_of (whole_samples channels (take want left))
