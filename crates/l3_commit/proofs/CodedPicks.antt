@@ -88,9 +88,9 @@ count_in-small lines c gain own e above =
     let lt : i < length q = omega (arith, length-map lines (quantised (pos c.gain))) in
     let small : unsigned_abs (get_or q i (pos 0)) ≤ 8191 = count_in-codable lines c own i (pos 0) lt in
     let here : get_or q i (pos 0) ≡ quantised (pos c.gain) (get_or lines i above.1) =
-        get_or-map (quantised (pos c.gain)) lines i above.1 (pos 0) within in
+    get_or-map (quantised (pos c.gain)) lines i above.1 (pos 0) within in
     let size : unsigned_abs (get_or q i (pos 0)) ≡ magnitude (pos c.gain) above.1 =
-        ap unsigned_abs here ∙ (size_of_quantised (pos c.gain) (get_or lines i above.1) ∙ ap (magnitude (pos c.gain)) above.3) in
+    ap unsigned_abs here ∙ (size_of_quantised (pos c.gain) (get_or lines i above.1) ∙ ap (magnitude (pos c.gain)) above.3) in
     let same : magnitude (pos gain) above.1 ≡ magnitude (pos c.gain) above.1 = ap (λ (g : ℕ). magnitude (pos g) above.1) e in
     omega (arith, above.4)
 

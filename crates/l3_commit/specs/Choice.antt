@@ -34,7 +34,8 @@ after_unit st n reserve lines = left_by reserve (mean_bits_of st n) (unit_chosen
 -- the units of a granule of frame n, from the reserve before it; `lines` is its spectra by channel
 abbrev pub granule_by : Channels → Settings → (n reserve : ℕ) → (ℕ → List ℤ) → List Unit
 granule_by Mono st n reserve lines = unit_chosen st n reserve (lines 0) ∷ blank ∷ []
-granule_by Stereo st n reserve lines = unit_chosen st n reserve (lines 0) ∷ unit_chosen st n (after_unit st n reserve (lines 0)) (lines 1) ∷ []
+granule_by Stereo st n reserve lines =
+    unit_chosen st n reserve (lines 0) ∷ unit_chosen st n (after_unit st n reserve (lines 0)) (lines 1) ∷ []
 
 -- the reserve after it
 abbrev pub reserve_by : Channels → Settings → (n reserve : ℕ) → (ℕ → List ℤ) → ℕ

@@ -30,7 +30,8 @@ ChosenWell = (st : Settings) (spectra : Spectra) (n : ℕ) → AreSpectra spectr
 
 -- frame n can follow the chosen frames before it
 abbrev pub ChosenFollow : Type 0
-ChosenFollow = (st : Settings) (spectra : Spectra) (n : ℕ) → AreSpectra spectra → CanFollow st n (begin_before st spectra n) (frames_before st spectra n)
+ChosenFollow = (st : Settings) (spectra : Spectra) (n : ℕ) → AreSpectra spectra →
+    CanFollow st n (begin_before st spectra n) (frames_before st spectra n)
 
 -- samples are 16-bit numbers
 abbrev pub AreSamples : List ℤ → Type 0

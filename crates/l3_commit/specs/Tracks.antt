@@ -34,7 +34,8 @@ pub record IsTrack (t : TrackView) : Type 0 where
   pub number : t.frame + min 1 (length t.granules) ≤ 4294967297
   pub begin : t.begin ≤ mmax_of t.settings
   pub each : All (IsCodedGranule t.settings t.settings.channels) t.granules
-  pub kept : granules_length t.granules + t.reserve ≡ 8 * t.begin + mean_bits_of t.settings t.frame * (channels_of t.settings.channels * length t.granules)
+  pub kept : granules_length t.granules + t.reserve ≡
+      8 * t.begin + mean_bits_of t.settings t.frame * (channels_of t.settings.channels * length t.granules)
 
 -- the number of the granule that comes next
 abbrev pub next_of : TrackView → ℕ

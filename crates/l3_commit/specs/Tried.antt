@@ -16,7 +16,8 @@ unit_tried st n reserve lines = tried_of (band_edges st.sample_rate) no_amp line
 -- at a granule of frame n
 abbrev pub granule_tried_by : Channels → Settings → (n reserve : ℕ) → (ℕ → List ℤ) → ℕ
 granule_tried_by Mono st n reserve lines = unit_tried st n reserve (lines 0)
-granule_tried_by Stereo st n reserve lines = unit_tried st n reserve (lines 0) + unit_tried st n (after_unit st n reserve (lines 0)) (lines 1)
+granule_tried_by Stereo st n reserve lines =
+    unit_tried st n reserve (lines 0) + unit_tried st n (after_unit st n reserve (lines 0)) (lines 1)
 
 unfoldable pub granule_tried : Settings → (n reserve : ℕ) → (ℕ → List ℤ) → ℕ
 granule_tried st n reserve lines = granule_tried_by st.channels st n reserve lines

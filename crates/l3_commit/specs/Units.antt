@@ -34,7 +34,8 @@ unit_at_gain st gain lines =
 unfoldable pub unit_within : Settings → ℕ → List ℤ → Unit
 unit_within st budget lines = unit_at_gain st (picked_gain (band_edges st.sample_rate) no_amp lines budget) lines
 
--- a count is one of a spectrum at its own gain, for the edges of some bands, of which none is amplified
+-- a count is one of a spectrum at its own gain, for the edges of some bands, of which none is
+-- amplified
 -- (only the inside of this crate)
 abbrev pub IsCountIn : List ℤ → Counted → Type 0
 IsCountIn lines c = (edges : List ℕ) × (count_of edges no_amp lines c.gain ≡ Some c)

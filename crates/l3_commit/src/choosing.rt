@@ -67,7 +67,15 @@ fn choose<L: Ledger + Send>(
     memo.clear();
     // For the proof alone: that the spectrum has its shape and range.
     let _lines = spec.lines();
-    let picked = pick(spec, place.settings.sample_rate, &Amp::zero(), 0, budget, memo, steps);
+    let picked = pick(
+        spec,
+        place.settings.sample_rate,
+        &Amp::zero(),
+        0,
+        budget,
+        memo,
+        steps,
+    );
     reserve.spend(&place.settings, place.frame, picked.count.bits());
     write_unit(spec, &picked.count, unit);
     picked.made
