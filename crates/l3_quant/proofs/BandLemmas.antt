@@ -59,18 +59,22 @@ least_in_band rate at band small room is =
       to = ltb-true at (edge_at rate (band + 1)) (is.passing less);
     }
 
-pub band_of-holds : (rate at : ℕ) → rate < 3 → at < 576 → IsInBand rate at (band_of (edges_at rate) at)
+pub band_of-holds : (rate at : ℕ) → rate < 3 → at < 576 →
+    IsInBand rate at (band_of (edges_at rate) at)
 unfolding band_of edge_at
 band_of-holds rate at small room =
     least_in_band rate at (band_of (edges_at rate) at) small room
     (least_passing-least 22 (λ b. ltb at (edge_at rate (b + 1))))
 
 -- a list in which one band more is filled
-pub filled_band : (P : ℕ → ℕ → ℕ → Type 0) (rate band : ℕ) (old new : List ℕ) → rate < 3 → band < 22 →
-    ((b k : ℕ) → b < band → edge_at rate b ≤ k → k < edge_at rate (b + 1) → P b k (get_or old k 0)) →
+pub filled_band : (P : ℕ → ℕ → ℕ → Type 0) (rate band : ℕ) (old new : List ℕ) → rate < 3 →
+    band < 22 →
+    ((b k : ℕ) → b < band → edge_at rate b ≤ k → k < edge_at rate (b + 1) →
+    P b k (get_or old k 0)) →
     ((k : ℕ) → k < edge_at rate band → get_or new k 0 ≡ get_or old k 0) →
     ((k : ℕ) → edge_at rate band ≤ k → k < edge_at rate (band + 1) → P band k (get_or new k 0)) →
-    (b k : ℕ) → b < band + 1 → edge_at rate b ≤ k → k < edge_at rate (b + 1) → P b k (get_or new k 0)
+    (b k : ℕ) → b < band + 1 → edge_at rate b ≤ k → k < edge_at rate (b + 1) →
+    P b k (get_or new k 0)
 filled_band P rate band old new small lt before same here b k below from to =
     elim (cases_lt b band) [
       | inl early ↦
@@ -100,7 +104,8 @@ each-at f n (x ∷ xs) (suc k) lt =
     each-at f (n + 1) xs k (omega arith) ∙ ap (λ m. f m (get_or xs k (pos 0))) same
 
 each-is : (f : ℕ → ℤ → ℤ) (n : ℕ) (xs out : List ℤ) → length out ≡ length xs →
-    ((k : ℕ) → k < length xs → get_or out k (pos 0) ≡ f (n + k) (get_or xs k (pos 0))) → out ≡ each f n xs
+    ((k : ℕ) → k < length xs → get_or out k (pos 0) ≡ f (n + k) (get_or xs k (pos 0))) →
+    out ≡ each f n xs
 each-is f n [] [] long h = refl
 each-is f n [] (y ∷ ys) long h = absurd (omega arith)
 each-is f n (x ∷ xs) [] long h = absurd (omega arith)
@@ -124,7 +129,8 @@ each-map f g n (x ∷ xs) h =
     let here : f n x ≡ g x = ap (λ m. f m x) (let none : n ≡ n + 0 = omega arith in none) ∙ h 0 x (omega arith) in
     ap (λ l. f n x ∷ l) rest ∙ ap (λ v. v ∷ map g xs) here
 
-each-drop : (f : ℕ → ℤ → ℤ) (n a : ℕ) (xs : List ℤ) → drop a (each f n xs) ≡ each f (n + a) (drop a xs)
+each-drop : (f : ℕ → ℤ → ℤ) (n a : ℕ) (xs : List ℤ) →
+    drop a (each f n xs) ≡ each f (n + a) (drop a xs)
 each-drop f n zero xs = ap (λ m. each f m xs) (let none : n ≡ n + 0 = omega arith in none)
 each-drop f n (suc a) [] = refl
 each-drop f n (suc a) (x ∷ xs) =
@@ -147,7 +153,8 @@ pub quantised_bands-long : (edges amp : List ℕ) (gain : ℤ) (lines : List ℤ
 unfolding quantised_bands
 quantised_bands-long edges amp gain lines = each-long (value_at edges amp gain) 0 lines
 
-pub quantised_bands-at : (edges amp : List ℕ) (gain : ℤ) (lines : List ℤ) (k : ℕ) → k < length lines →
+pub quantised_bands-at : (edges amp : List ℕ) (gain : ℤ) (lines : List ℤ) (k : ℕ) →
+    k < length lines →
     get_or (quantised_bands edges amp gain lines) k (pos 0)
     ≡ quantised (band_gain amp gain (band_of edges k)) (get_or lines k (pos 0))
 unfolding quantised_bands
@@ -157,7 +164,8 @@ quantised_bands-at edges amp gain lines k lt =
     ∙ ap (λ m. value_at edges amp gain m (get_or lines k (pos 0))) same
 
 -- a list that has each line's value
-pub quantised_bands-is : (edges amp : List ℕ) (gain : ℤ) (lines out : List ℤ) → length out ≡ length lines →
+pub quantised_bands-is : (edges amp : List ℕ) (gain : ℤ) (lines out : List ℤ) →
+    length out ≡ length lines →
     ((k : ℕ) → k < length lines →
     get_or out k (pos 0) ≡ quantised (band_gain amp gain (band_of edges k)) (get_or lines k (pos 0))) →
     out ≡ quantised_bands edges amp gain lines
@@ -168,7 +176,8 @@ quantised_bands-is edges amp gain lines out long h =
     h k lt ∙ ap (λ m. value_at edges amp gain m (get_or lines k (pos 0))) same)
 
 -- the values of a band are those of its lines at its gain
-pub quantised_bands-band : (rate band : ℕ) (amp : List ℕ) (gain : ℤ) (lines : List ℤ) → rate < 3 → band < 22 →
+pub quantised_bands-band : (rate band : ℕ) (amp : List ℕ) (gain : ℤ) (lines : List ℤ) →
+    rate < 3 → band < 22 →
     slice_range (quantised_bands (edges_at rate) amp gain lines) (edge_at rate band) (edge_at rate (band + 1))
     ≡ quantised_lines (band_gain amp gain band) (slice_range lines (edge_at rate band) (edge_at rate (band + 1)))
 unfolding quantised_bands
@@ -208,7 +217,8 @@ one_gain_without_amp edges gain lines =
 -- ---- codable
 
 -- the sizes of the values
-pub quantised_bands-size : (edges amp : List ℕ) (gain : ℤ) (lines : List ℤ) (k : ℕ) → k < length lines →
+pub quantised_bands-size : (edges amp : List ℕ) (gain : ℤ) (lines : List ℤ) (k : ℕ) →
+    k < length lines →
     unsigned_abs (get_or (quantised_bands edges amp gain lines) k (pos 0))
     ≡ magnitude (band_gain amp gain (band_of edges k)) (get_or lines k (pos 0))
 quantised_bands-size edges amp gain lines k lt =

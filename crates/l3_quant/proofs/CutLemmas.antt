@@ -24,8 +24,10 @@ pub record CutSoFar (rate : ℕ) (amp : List ℕ) (gain : ℕ) (lines : List ℤ
   pub plain : (i : ℕ) → edge_at rate bands ≤ i → i < 576 → get_or out i 0 ≡ cut_at lines i (steps_of (pos gain))
   pub known : 0 < bands → IsAmp amp
 
-pub cut_begun : (rate : ℕ) (amp : List ℕ) (gain h : ℕ) (lines : List ℤ) (out : List ℕ) → h ≡ steps_of (pos gain) →
-    length out ≡ 576 → ((i : ℕ) → i < 576 → get_or out i 0 ≡ cut_at lines i h) → CutSoFar rate amp gain lines 0 out
+pub cut_begun : (rate : ℕ) (amp : List ℕ) (gain h : ℕ) (lines : List ℤ) (out : List ℕ) →
+    h ≡ steps_of (pos gain) →
+    length out ≡ 576 → ((i : ℕ) → i < 576 → get_or out i 0 ≡ cut_at lines i h) →
+    CutSoFar rate amp gain lines 0 out
 cut_begun rate amp gain h lines out steps long value = record {
   long = long;
   done = λ b i lt. absurd (omega arith);
@@ -41,8 +43,10 @@ pub record IsCutBand (rate band : ℕ) (lines : List ℤ) (h : ℕ) (old new : L
 
 -- one band more is cut at so many steps finer
 pub cut_more : (rate : ℕ) (amp : List ℕ) (gain h finer : ℕ) (lines : List ℤ) (band : ℕ) (old new : List ℕ) →
-    rate < 3 → band < 21 → gain ≤ 255 → IsAmp amp → h ≡ steps_of (pos gain) → finer ≡ 2 * get_or amp band 0 →
-    CutSoFar rate amp gain lines band old → length new ≡ 576 → IsCutBand rate band lines (h + finer) old new →
+    rate < 3 → band < 21 → gain ≤ 255 → IsAmp amp → h ≡ steps_of (pos gain) →
+    finer ≡ 2 * get_or amp band 0 →
+    CutSoFar rate amp gain lines band old → length new ≡ 576 →
+    IsCutBand rate band lines (h + finer) old new →
     CutSoFar rate amp gain lines (band + 1) new
 cut_more rate amp gain h finer lines band old new small lt most is steps finer_is before long cut =
     let together : h + finer ≡ steps_of (band_gain amp (pos gain) band) =
@@ -68,7 +72,8 @@ cut_same rate amp gain finer lines band out small lt most is finer_is none befor
       behind = λ i _. refl;
     })
 
-cut_value : (rate : ℕ) (amp : List ℕ) (gain : ℕ) (lines : List ℤ) (out : List ℕ) (i band : ℕ) → gain ≤ 255 →
+cut_value : (rate : ℕ) (amp : List ℕ) (gain : ℕ) (lines : List ℤ) (out : List ℕ) (i band : ℕ) →
+    gain ≤ 255 →
     CutSoFar rate amp gain lines 21 out → i < 576 → IsInBand rate i band →
     get_or out i 0 ≡ cut_at lines i (steps_of (band_gain amp (pos gain) band))
 cut_value rate amp gain lines out i band most cut room is =
@@ -84,8 +89,10 @@ cut_value rate amp gain lines out i band most cut room is =
     ]
 
 -- the words of the contract
-pub cut_whole : (rate : ℕ) (amp : List ℕ) (gain : ℕ) (lines : List ℤ) (out : List ℕ) → rate < 3 → gain ≤ 255 →
-    length lines ≡ 576 → CutSoFar rate amp gain lines 21 out → out ≡ cut_sizes (quantised_bands (edges_at rate) amp (pos gain) lines)
+pub cut_whole : (rate : ℕ) (amp : List ℕ) (gain : ℕ) (lines : List ℤ) (out : List ℕ) → rate < 3 →
+    gain ≤ 255 →
+    length lines ≡ 576 → CutSoFar rate amp gain lines 21 out →
+    out ≡ cut_sizes (quantised_bands (edges_at rate) amp (pos gain) lines)
 cut_whole rate amp gain lines out small most long cut =
     let edges = edges_at rate in
     let q = quantised_bands edges amp (pos gain) lines in

@@ -54,7 +54,8 @@ four_thirds_of-greatest n =
     }
 
 -- v is within the bound and v + 1 is not
-pub four_thirds_of-is : (n v : ℕ) → v ^ 3 ≤ n ^ 4 * 2 ^ 36 → n ^ 4 * 2 ^ 36 < (v + 1) ^ 3 → v ≡ four_thirds_of n
+pub four_thirds_of-is : (n v : ℕ) → v ^ 3 ≤ n ^ 4 * 2 ^ 36 → n ^ 4 * 2 ^ 36 < (v + 1) ^ 3 →
+    v ≡ four_thirds_of n
 four_thirds_of-is n v within above =
     let own = four_thirds_of-greatest n in
     let low : v ≤ four_thirds_of n = own.greatest v within in
@@ -101,7 +102,8 @@ powers_all i vs h lt =
     subst P same (powers_at 0 i vs h lt)
 
 -- each entry of the table is its place's power
-pub power_is : (n : ℕ) → n < 8207 → (get_or POWERS n 0 ≡ four_thirds_of n) × (get_or POWERS n 0 < 2 ^ 30)
+pub power_is : (n : ℕ) → n < 8207 →
+    (get_or POWERS n 0 ≡ four_thirds_of n) × (get_or POWERS n 0 < 2 ^ 30)
 power_is n lt = powers_all n POWERS refl lt
 
 -- ---- what a value stands for
@@ -115,7 +117,8 @@ factors (suc (suc (suc zero))) lt = (omega arith, omega arith)
 factors (suc (suc (suc (suc r)))) lt = absurd (omega arith)
 
 -- the divisor is at least 2^30 and has at most 111 bits
-divisor : (f h : ℕ) → f ≡ factor (h % 4) → h ≤ 322 → (2 ^ 30 ≤ f * 2 ^ (h / 4)) × (f * 2 ^ (h / 4) < 2 ^ 128)
+divisor : (f h : ℕ) → f ≡ factor (h % 4) → h ≤ 322 →
+    (2 ^ 30 ≤ f * 2 ^ (h / 4)) × (f * 2 ^ (h / 4) < 2 ^ 128)
 divisor f h is le =
     let range = factors (h % 4) (omega arith) in
     let low : 2 ^ 30 ≤ f = omega (arith, range.0, is) in
@@ -137,7 +140,8 @@ pub record IsReconstructed (n p f h : ℕ) (gain : ℤ) : Type 0 where
   pub small : p * 2 ^ 54 % 2 ^ 128 / (f * 2 ^ (h / 4) % 2 ^ 128) < 2 ^ 54
   pub value : p * 2 ^ 54 % 2 ^ 128 / (f * 2 ^ (h / 4) % 2 ^ 128) ≡ reconstructed n gain
 
-pub reconstructed_is : (n p f h : ℕ) (gain : ℤ) → p ≡ four_thirds_of n → p < 2 ^ 30 → f ≡ factor (h % 4) →
+pub reconstructed_is : (n p f h : ℕ) (gain : ℤ) → p ≡ four_thirds_of n → p < 2 ^ 30 →
+    f ≡ factor (h % 4) →
     h ≡ steps_of gain → h ≤ 322 → IsReconstructed n p f h gain
 unfolding reconstructed
 reconstructed_is n p f h gain power small is steps le =

@@ -25,14 +25,16 @@ use Rattle.l3_quant.proofs.BandLemmas.{first_gain_of-is, one_gain_without_amp, q
 -- ---- a test of all
 
 -- a part that fails fails the whole
-pub slice-fails : (p : ℤ → Bool) (xs : List ℤ) (a b : ℕ) → a ≤ b → list_all p (slice_range xs a b) ≡ false → list_all p xs ≡ false
+pub slice-fails : (p : ℤ → Bool) (xs : List ℤ) (a b : ℕ) → a ≤ b →
+    list_all p (slice_range xs a b) ≡ false → list_all p xs ≡ false
 slice-fails p xs a b le bad =
     let back : list_all p (drop a xs) ≡ false =
     ap (list_all p) (drop_split xs a b le) ∙ (list_all-append p (slice_range xs a b) (drop b xs) ∙ and_left (list_all p (slice_range xs a b)) (list_all p (drop b xs)) bad) in
     ap (list_all p) (sym (take-append-drop a xs)) ∙ (list_all-append p (take a xs) (drop a xs) ∙ and_right (list_all p (take a xs)) (list_all p (drop a xs)) back)
 
 -- the front and the part behind it
-pub front_more : (p : ℤ → Bool) (xs : List ℤ) (a b : ℕ) → a ≤ b → list_all p (take a xs) ≡ true → list_all p (slice_range xs a b) ≡ true → list_all p (take b xs) ≡ true
+pub front_more : (p : ℤ → Bool) (xs : List ℤ) (a b : ℕ) → a ≤ b → list_all p (take a xs) ≡ true →
+    list_all p (slice_range xs a b) ≡ true → list_all p (take b xs) ≡ true
 front_more p xs a b le front part =
     let whole : a + (b - a) ≡ b = omega arith in
     ap (λ n. list_all p (take n xs)) (sym whole) ∙ (ap (list_all p) (take-add a (b - a) xs)
@@ -88,7 +90,8 @@ band_peak rate amp gain spec peaks b lt are =
     (get_or peaks b 0) (are.peaks_are b lt))
 
 -- a spectrum with this peak is codable at one gain where the peak is, finer by no steps
-pub one_peak_codable : (lines : List ℤ) (p g : ℕ) → g ≤ 255 → IsPeak lines p → magnitude_at p (258 - g + 0) ≤ 8191 →
+pub one_peak_codable : (lines : List ℤ) (p g : ℕ) → g ≤ 255 → IsPeak lines p →
+    magnitude_at p (258 - g + 0) ≤ 8191 →
     is_codable (quantised_lines (pos g) lines) ≡ true
 one_peak_codable lines p g le is coded =
     let P : ℕ → Type 0 = λ h. magnitude_at p h ≤ 8191 in
@@ -96,7 +99,8 @@ one_peak_codable lines p g le is coded =
     quantised_peak (pos g) lines p is 8191 ∙ le-leb _ 8191 (subst P steps coded)
 
 -- and is not where the peak is above
-pub one_peak_above : (lines : List ℤ) (p g : ℕ) → g ≤ 255 → IsPeak lines p → 8191 < magnitude_at p (258 - g + 0) →
+pub one_peak_above : (lines : List ℤ) (p g : ℕ) → g ≤ 255 → IsPeak lines p →
+    8191 < magnitude_at p (258 - g + 0) →
     list_all (λ x. leb (magnitude (pos g) x) 8191) lines ≡ false
 one_peak_above lines p g le is above =
     let P : ℕ → Type 0 = λ h. 8191 < magnitude_at p h in
@@ -105,7 +109,8 @@ one_peak_above lines p g le is above =
 
 -- the least gain at which the peak can be coded is the first gain without amplification
 pub one_peak_first : (edges : List ℕ) (lines : List ℤ) (p n : ℕ) → n ≤ 255 → IsPeak lines p →
-    magnitude_at p (258 - n + 0) ≤ 8191 → ((k : ℕ) → 0 ≤ k → k < n → 8191 < magnitude_at p (258 - k + 0)) →
+    magnitude_at p (258 - n + 0) ≤ 8191 → ((k : ℕ) → 0 ≤ k → k < n →
+    8191 < magnitude_at p (258 - k + 0)) →
     n ≡ first_gain_of edges no_amp lines
 one_peak_first edges lines p n le is coded least =
     let at = λ (g : ℕ). one_gain_without_amp edges (pos g) lines in
@@ -128,7 +133,8 @@ pub no_line_peaks : (frequency : ℕ) (lines : List ℤ) (peaks : List ℕ) → 
 no_line_peaks frequency lines peaks long =
     record { long = long; value = λ b lt. absurd (omega arith); small = λ b lt. absurd (omega arith) }
 
-pub line_peaks_more : (frequency : ℕ) (lines : List ℤ) (band : ℕ) (peaks : List ℕ) (p : ℕ) → band < 22 →
+pub line_peaks_more : (frequency : ℕ) (lines : List ℤ) (band : ℕ) (peaks : List ℕ) (p : ℕ) →
+    band < 22 →
     LinePeaksSoFar frequency lines band peaks → p < 2 ^ 29 →
     IsPeak (slice_range lines (edge_at frequency band) (edge_at frequency (band + 1))) p →
     LinePeaksSoFar frequency lines (band + 1) (set peaks band p)
@@ -139,7 +145,8 @@ line_peaks_more frequency lines band peaks p lt before small is = record {
   small = filled_more (λ _ n. n < 2 ^ 29) peaks band p 0 (omega (arith, before.long)) before.small small;
 }
 
-pub line_peaks_are : (frequency : ℕ) (rate : SampleRate) (lines spec : List ℤ) (peaks : List ℕ) → length spec ≡ 576 →
+pub line_peaks_are : (frequency : ℕ) (rate : SampleRate) (lines spec : List ℤ) (peaks : List ℕ) →
+    length spec ≡ 576 →
     lines ≡ spec → frequency ≡ hertz_index_of rate → LinePeaksSoFar frequency lines 22 peaks →
     AreLinePeaks (band_edges rate) spec peaks
 unfolding edge_at
@@ -160,11 +167,13 @@ pub record PeaksSoFar (amp : List ℕ) (gain : ℕ) (lines : List ℕ) (bands : 
       get_or out b 0 ≡ magnitude_at (get_or lines b 0) (steps_of (band_gain amp (pos gain) b))
   pub bound : (b : ℕ) → b < bands → get_or out b 0 ≤ 8191
 
-pub no_peaks : (amp : List ℕ) (gain : ℕ) (lines out : List ℕ) → length out ≡ 22 → PeaksSoFar amp gain lines 0 out
+pub no_peaks : (amp : List ℕ) (gain : ℕ) (lines out : List ℕ) → length out ≡ 22 →
+    PeaksSoFar amp gain lines 0 out
 no_peaks amp gain lines out long =
     record { long = long; value = λ b lt. absurd (omega arith); bound = λ b lt. absurd (omega arith) }
 
-pub peaks_more : (amp : List ℕ) (gain : ℕ) (lines : List ℕ) (band : ℕ) (out : List ℕ) (n : ℕ) → band < 22 →
+pub peaks_more : (amp : List ℕ) (gain : ℕ) (lines : List ℕ) (band : ℕ) (out : List ℕ) (n : ℕ) →
+    band < 22 →
     PeaksSoFar amp gain lines band out → n ≤ 8191 →
     n ≡ magnitude_at (get_or lines band 0) (steps_of (band_gain amp (pos gain) band)) →
     PeaksSoFar amp gain lines (band + 1) (set out band n)
@@ -177,7 +186,9 @@ peaks_more amp gain lines band out n lt before bound is = record {
 
 -- what passes in each of the bands passes in all lines
 pub bands_cover : (p : ℤ → Bool) (rate : ℕ) (xs : List ℤ) → rate < 3 → length xs ≡ 576 →
-    ((b : ℕ) → b < 22 → list_all p (slice_range xs (edge_at rate b) (edge_at rate (b + 1))) ≡ true) → list_all p xs ≡ true
+    ((b : ℕ) → b < 22 →
+    list_all p (slice_range xs (edge_at rate b) (edge_at rate (b + 1))) ≡ true) →
+    list_all p xs ≡ true
 bands_cover p rate xs small long each =
     let front : take (edge_at rate 22) xs ≡ xs = ap (λ n. take n xs) (edge_last rate small ∙ sym long) ∙ take-length xs in
     ap (list_all p) (sym front) ∙ fronts 22 (omega arith)
@@ -198,7 +209,8 @@ peaks_are amp gain lines out peaks rate spec are b lt =
 
 -- where each band's peak can be coded the spectrum can
 pub bands_codable : (amp : List ℕ) (gain : ℕ) (peaks : List ℕ) →
-    ((b : ℕ) → b < 22 → magnitude_at (get_or peaks b 0) (steps_of (band_gain amp (pos gain) b)) ≤ 8191) →
+    ((b : ℕ) → b < 22 →
+    magnitude_at (get_or peaks b 0) (steps_of (band_gain amp (pos gain) b)) ≤ 8191) →
     (rate : SampleRate) (spec : List ℤ) → AreLinePeaks (band_edges rate) spec peaks →
     is_codable (quantised_bands (band_edges rate) amp (pos gain) spec) ≡ true
 bands_codable amp gain peaks each rate spec are =
@@ -219,7 +231,8 @@ band_above amp gain band peaks lt above rate spec are =
     (omega (arith, edge_rises index band (index_small rate) lt))
     (band_peak rate amp (pos gain) spec peaks band lt are 8191 ∙ lt-leb _ 8191 above)
 
-pub peaks_codable : (amp : List ℕ) (gain : ℕ) (lines out : List ℕ) → PeaksSoFar amp gain lines 22 out →
+pub peaks_codable : (amp : List ℕ) (gain : ℕ) (lines out : List ℕ) →
+    PeaksSoFar amp gain lines 22 out →
     (rate : SampleRate) (spec : List ℤ) → AreLinePeaks (band_edges rate) spec lines →
     IsCodable (quantised_bands (band_edges rate) amp (pos gain) spec)
 peaks_codable amp gain lines out peaks rate spec are =
@@ -275,7 +288,8 @@ first_codable amp peaks gain first =
     subst P (sym (steps_of-band amp gain b first.within)) (first.coded b lt))
 
 pub none_below : (amp peaks : List ℕ) (gain : ℕ) → FirstSoFar amp peaks 22 gain →
-    (rate : SampleRate) (spec : List ℤ) → AreLinePeaks (band_edges rate) spec peaks → (k : ℕ) → k < gain →
+    (rate : SampleRate) (spec : List ℤ) → AreLinePeaks (band_edges rate) spec peaks → (k : ℕ) →
+    k < gain →
     is_codable (quantised_bands (band_edges rate) amp (pos k) spec) ≡ false
 none_below amp peaks gain first rate spec are k lt =
     let found = first.least k lt in

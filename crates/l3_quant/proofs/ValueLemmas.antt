@@ -18,7 +18,8 @@ pub one_gain_values : (gain : ℤ) (lines out : List ℤ) → length lines ≡ 5
 one_gain_values gain lines out long same values =
     quantised_lines-is gain lines out (omega arith) (λ k lt. values k (omega arith))
 
-pub one_gain_above : (gain : ℤ) (lines : List ℤ) → length lines ≡ 576 → IsAboveAt (λ _. steps_of gain) lines →
+pub one_gain_above : (gain : ℤ) (lines : List ℤ) → length lines ≡ 576 →
+    IsAboveAt (λ _. steps_of gain) lines →
     Any (λ x. 8191 < magnitude gain x) lines
 one_gain_above gain lines long above =
     entry_above (magnitude gain) 8191 lines above.0 (omega (arith, above.1)) above.2
@@ -32,8 +33,10 @@ bands_scaled rate amp gain lines ys small each k lt =
     let is = band_of-holds rate k small lt in
     each (band_of (edges_at rate) k) k is.band_lt is.from is.to
 
-pub bands_values : (rate : ℕ) (amp : List ℕ) (gain : ℕ) (lines out : List ℤ) → length lines ≡ 576 → length out ≡ 576 →
-    AreValues (steps_at rate amp gain) lines out → out ≡ quantised_bands (edges_at rate) amp (pos gain) lines
+pub bands_values : (rate : ℕ) (amp : List ℕ) (gain : ℕ) (lines out : List ℤ) →
+    length lines ≡ 576 → length out ≡ 576 →
+    AreValues (steps_at rate amp gain) lines out →
+    out ≡ quantised_bands (edges_at rate) amp (pos gain) lines
 bands_values rate amp gain lines out long same values =
     quantised_bands-is (edges_at rate) amp (pos gain) lines out (omega arith) (λ k lt. values k (omega arith))
 

@@ -17,8 +17,9 @@ pub record IsFourThirds (n power : ℕ) : Type 0 where
 abbrev pub FourThirdsIsGreatest : Type 0
 FourThirdsIsGreatest = (n : ℕ) → IsFourThirds n (four_thirds_of n)
 
--- the absolute value of the line that n stands for at a gain, rounded down: the power divided by
--- 2^((210 - gain) / 4), with the factor 2^54 and the quarter steps below 258 of `scaled`
+-- the absolute value of the line that n stands for at a gain, rounded down: the power over
+-- 2^((210 - gain) / 4), so many quarter steps below 258. The units 2^-12 of the power and 2^-24 of
+-- a line make 2^12, and the table's unit and the 12 doublings 2^30 and 2^12: that is 2^54
 unfoldable pub reconstructed : ℕ → ℤ → ℕ
 reconstructed n gain =
     four_thirds_of n * 2 ^ 54
