@@ -1,7 +1,7 @@
--- A code that stands at a place is the one that reading finds there, and where none stands none is found.
-use Rattle.std.proofs.Common.{◌≡◌, ℕ, ◌+◌, ◌-◌, ◌*◌, ◌≤◌, ltb, cond, Bool, List, ◌++◌, length, take, drop, get_or, Option, Some, None, refl, sym, ap, ◌∙◌, arith, length-append, inl, inr}
-use Rattle.std.specs.Prelude.{ℤ, slice_index, slice_range}
-use Rattle.std.proofs.lemmas.Bool.{cases_Bool}
+-- A code that stands at a place is the one that reading finds there, and where none stands none is
+-- found.
+use Rattle.std.proofs.Common.{◌≡◌, ℕ, ◌+◌, ◌-◌, ◌*◌, ◌≤◌, Bool, List, ◌++◌, length, take, drop, Option, Some, None, refl, sym, ap, ◌∙◌, arith, length-append}
+use Rattle.std.specs.Prelude.{ℤ, slice_range}
 use Rattle.std.proofs.lemmas.List.{take-take, take-append-drop, drop_at}
 use Rattle.l3_bits.specs.Bits.{bits_of}
 use Rattle.l3_huff.specs.declared.quads.QuadTable.{QuadTable}
@@ -14,50 +14,57 @@ use Rattle.l3_huff.proofs.PairLaws.{pair_takes, pair_again}
 use Rattle.l3_huff.proofs.QuadLaws.{quad_takes, quad_again}
 use Rattle.l3_huff.proofs.Betweens.{drop-between, length-between}
 use Rattle.l3_huff.proofs.Stands.{pair_stands, quad_stands}
-use Rattle.l3_reader.specs.declared.quantised.Regions.{Regions}
-use Rattle.l3_reader.specs.Steps.{table_by}
-
--- each line has a table of the profile
-pub table_is : (r : Regions) (line : ℕ) → IsTable (slice_index r.tables 0) → IsTable (slice_index r.tables 1) → IsTable (slice_index r.tables 2) → IsTable (table_by r line)
-unfolding table_by
-table_is r line one two three =
-    elim (cases_Bool (ltb line r.second)) as (λ _. IsTable (get_or r.tables (cond (ltb line r.second) 0 (cond (ltb line r.third) 1 2)) 0)) [
-      | inl below ↦ rw below one
-      | inr above ↦ elim (cases_Bool (ltb line r.third)) as (λ _. IsTable (get_or r.tables (cond (ltb line r.second) 0 (cond (ltb line r.third) 1 2)) 0)) [
-        | inl within ↦ rw (above, within) two
-        | inr past ↦ rw (above, past) three
-      ]
-    ]
 
 -- a code that stands at a place is in front of the bits there
-pub in_front : (bytes : List ℕ) (at end next : ℕ) (code : List Bool) → next ≡ at + length code → next ≤ end → slice_range (bits_of bytes) at next ≡ code →
+pub in_front : (bytes : List ℕ) (at end next : ℕ) (code : List Bool) → next ≡ at + length code
+    → next ≤ end → slice_range (bits_of bytes) at next ≡ code →
     between bytes at end ≡ code ++ between bytes next end
 in_front bytes at end next code after whole is =
     let n = length code in
     let room : n ≤ end - at = omega (arith, after, whole) in
     let size : n ≡ next - at = omega (arith, after) in
     sym (take-append-drop n (between bytes at end))
-    ∙ (ap (λ l. l ++ drop n (between bytes at end)) (take-take n (end - at) (drop at (bits_of bytes)) room ∙ (ap (λ m. take m (drop at (bits_of bytes))) size ∙ is))
-    ∙ ap (λ l. code ++ l) (drop-between bytes at end n room ∙ ap (λ m. between bytes m end) (sym after)))
+    ∙ (ap (λ l. l ++ drop n (between bytes at end))
+    (take-take n (end - at) (drop at (bits_of bytes)) room
+    ∙ (ap (λ m. take m (drop at (bits_of bytes))) size ∙ is))
+    ∙ ap (λ l. code ++ l) (drop-between bytes at end n room ∙ ap (λ m. between bytes m end)
+    (sym after)))
 
 -- what is behind a code in front of the bits
 record IsBehind (bytes : List ℕ) (at end next : ℕ) (rest : List Bool) : Type 0 where
   whole : next ≤ end
   is : rest ≡ between bytes next end
 
-behind : (bytes : List ℕ) (at end : ℕ) (code rest : List Bool) → at ≤ end → end ≤ 8 * length bytes → between bytes at end ≡ code ++ rest → IsBehind bytes at end (at + length code) rest
+behind : (bytes : List ℕ) (at end : ℕ) (code rest : List Bool) → at ≤ end → end ≤ 8 * length bytes
+    → between bytes at end ≡ code ++ rest → IsBehind bytes at end (at + length code) rest
 behind bytes at end code rest order within text =
-    let size : length code + length rest ≡ end - at = omega (arith, ap length text, length-append code rest, length-between bytes at end order within) in
+    let size : length code + length rest ≡ end - at = omega (
+      arith,
+      ap length text,
+      length-append code rest,
+      length-between bytes at end order within,
+    ) in
     record {
       whole = omega (arith, size, order);
-      is = sym (drop_at code rest (length code) refl) ∙ (ap (drop (length code)) (sym text) ∙ drop-between bytes at end (length code) (omega (arith, size)));
+      is = sym (drop_at code rest (length code) refl) ∙ (ap (drop (length code)) (sym text)
+          ∙ drop-between bytes at end (length code) (omega (arith, size)));
     }
 
-pub pair_found : (table : ℕ) (bytes : List ℕ) (at end : ℕ) (x y : ℤ) (next : ℕ) → PairStands table bytes at end x y next → pair_at table (between bytes at end) ≡ Some ((x, y), between bytes next end)
+pub pair_found : (table : ℕ) (bytes : List ℕ) (at end : ℕ) (x y : ℤ) (next : ℕ)
+    → PairStands table bytes at end x y next → pair_at table (between bytes at end) ≡ Some (
+      (x, y),
+      between bytes next end,
+    )
 pair_found table bytes at end x y next stands =
-    ap (pair_at table) (in_front bytes at end next (pair_code_of table x y) stands.after stands.whole stands.code) ∙ pair_again table x y (between bytes next end) (stands.holds_x, stands.holds_y)
+    ap (pair_at table) (in_front bytes at end next (pair_code_of table x y) stands.after
+    stands.whole stands.code) ∙ pair_again table x y (between bytes next end) (
+      stands.holds_x,
+      stands.holds_y,
+    )
 
-pair_none_of : (table : ℕ) (bytes : List ℕ) (at end : ℕ) (read : Option ((ℤ × ℤ) × List Bool)) → pair_at table (between bytes at end) ≡ read → IsTable table → at ≤ end → end ≤ 8 * length bytes →
+pair_none_of : (table : ℕ) (bytes : List ℕ) (at end : ℕ) (read : Option ((ℤ × ℤ) × List Bool))
+    → pair_at table (between bytes at end) ≡ read → IsTable table → at ≤ end
+    → end ≤ 8 * length bytes →
     ((x y : ℤ) (next : ℕ) → PairStands table bytes at end x y next → ⊥) → read ≡ None
 pair_none_of table bytes at end None e is order within none = refl
 pair_none_of table bytes at end (Some p) e is order within none =
@@ -65,17 +72,26 @@ pair_none_of table bytes at end (Some p) e is order within none =
     let code = pair_code_of table p.0.0 p.0.1 in
     let next = at + length code in
     let b = behind bytes at end code p.1 order within taken.1 in
-    absurd (none p.0.0 p.0.1 next (pair_stands table bytes at end p.0.0 p.0.1 next is (omega arith) b.whole within (e ∙ ap (λ (l : List Bool). Some (p.0, l)) b.is)))
+    absurd (none p.0.0 p.0.1 next (pair_stands table bytes at end p.0.0 p.0.1 next is
+    (omega arith) b.whole within (e ∙ ap (λ (l : List Bool). Some (p.0, l)) b.is)))
 
-pub pair_not_found : (table : ℕ) (bytes : List ℕ) (at end : ℕ) → IsTable table → at ≤ end → end ≤ 8 * length bytes →
-    ((x y : ℤ) (next : ℕ) → PairStands table bytes at end x y next → ⊥) → pair_at table (between bytes at end) ≡ None
-pair_not_found table bytes at end is order within none = pair_none_of table bytes at end (pair_at table (between bytes at end)) refl is order within none
+pub pair_not_found : (table : ℕ) (bytes : List ℕ) (at end : ℕ) → IsTable table → at ≤ end
+    → end ≤ 8 * length bytes →
+    ((x y : ℤ) (next : ℕ) → PairStands table bytes at end x y next → ⊥)
+    → pair_at table (between bytes at end) ≡ None
+pair_not_found table bytes at end is order within none = pair_none_of table bytes at end
+    (pair_at table (between bytes at end)) refl is order within none
 
-pub quad_found : (table : QuadTable) (bytes : List ℕ) (at end : ℕ) (quad : List ℤ) (next : ℕ) → QuadStands table bytes at end quad next → quad_at table (between bytes at end) ≡ Some (quad, between bytes next end)
+pub quad_found : (table : QuadTable) (bytes : List ℕ) (at end : ℕ) (quad : List ℤ) (next : ℕ)
+    → QuadStands table bytes at end quad next → quad_at table (between bytes at end) ≡ Some
+    (quad, between bytes next end)
 quad_found table bytes at end quad next stands =
-    ap (quad_at table) (in_front bytes at end next (quad_code_of table quad) stands.after stands.whole stands.code) ∙ quad_again table quad (between bytes next end) stands.values
+    ap (quad_at table) (in_front bytes at end next (quad_code_of table quad) stands.after
+    stands.whole stands.code) ∙ quad_again table quad (between bytes next end) stands.values
 
-quad_none_of : (table : QuadTable) (bytes : List ℕ) (at end : ℕ) (read : Option (List ℤ × List Bool)) → quad_at table (between bytes at end) ≡ read → at ≤ end → end ≤ 8 * length bytes →
+quad_none_of : (table : QuadTable) (bytes : List ℕ) (at end : ℕ)
+    (read : Option (List ℤ × List Bool)) → quad_at table (between bytes at end) ≡ read → at ≤ end
+    → end ≤ 8 * length bytes →
     ((quad : List ℤ) (next : ℕ) → QuadStands table bytes at end quad next → ⊥) → read ≡ None
 quad_none_of table bytes at end None e order within none = refl
 quad_none_of table bytes at end (Some p) e order within none =
@@ -83,8 +99,12 @@ quad_none_of table bytes at end (Some p) e order within none =
     let code = quad_code_of table p.0 in
     let next = at + length code in
     let b = behind bytes at end code p.1 order within taken.1 in
-    absurd (none p.0 next (quad_stands table bytes at end p.0 next (omega arith) b.whole within (e ∙ ap (λ (l : List Bool). Some (p.0, l)) b.is)))
+    absurd (none p.0 next (quad_stands table bytes at end p.0 next (omega arith) b.whole within
+    (e ∙ ap (λ (l : List Bool). Some (p.0, l)) b.is)))
 
-pub quad_not_found : (table : QuadTable) (bytes : List ℕ) (at end : ℕ) → at ≤ end → end ≤ 8 * length bytes →
-    ((quad : List ℤ) (next : ℕ) → QuadStands table bytes at end quad next → ⊥) → quad_at table (between bytes at end) ≡ None
-quad_not_found table bytes at end order within none = quad_none_of table bytes at end (quad_at table (between bytes at end)) refl order within none
+pub quad_not_found : (table : QuadTable) (bytes : List ℕ) (at end : ℕ) → at ≤ end
+    → end ≤ 8 * length bytes →
+    ((quad : List ℤ) (next : ℕ) → QuadStands table bytes at end quad next → ⊥)
+    → quad_at table (between bytes at end) ≡ None
+quad_not_found table bytes at end order within none = quad_none_of table bytes at end
+    (quad_at table (between bytes at end)) refl order within none

@@ -1,4 +1,5 @@
--- Frames read one after the other: how far a reader has come, and what its answers say of the bytes that are left.
+-- Frames read one after the other: how far a reader has come, and what its answers say of the bytes
+-- that are left.
 use Rattle.std.specs.Prelude.{◌≡◌, ℕ, zero, suc, ◌+◌, ◌-◌, ◌<◌, List, [], ◌∷◌, ◌++◌, length, take, drop, Option, Some, None, IfSome, Result, Ok, Err}
 use Rattle.std.specs.Io.KnownBytes.{Consumes}
 use Rattle.l3_bits.specs.Bits.{bits_of}
@@ -34,13 +35,16 @@ content_from (Some st) limit p bytes = do
   frames ← frames_from st (limit - p.number) p bytes
   Ok (record { settings = Some st; frames = frames })
 
--- what is still read of the bytes that are left: the content from here on, or the fault at which reading stops
+-- what is still read of the bytes that are left: the content from here on, or the fault at which
+-- reading stops
 abbrev pub still_read : Progress → List ℕ → Result Content StreamFault
-still_read p left = elim p.fault [ None ↦ content_from p.settings p.limit p.place left | Some fault ↦ Err fault ]
+still_read p left =
+    elim p.fault [ None ↦ content_from p.settings p.limit p.place left | Some fault ↦ Err fault ]
 
 -- frames, and what is read behind them
 abbrev pub with_frames : List ChosenFrame → Result Content StreamFault → Result Content StreamFault
-with_frames frames (Ok content) = Ok (record { settings = content.settings; frames = frames ++ content.frames })
+with_frames frames (Ok content) =
+    Ok (record { settings = content.settings; frames = frames ++ content.frames })
 with_frames frames (Err fault) = Err fault
 
 -- the frame that bytes begin with, and where reading stands behind it
@@ -48,9 +52,13 @@ unfoldable pub frame_at : Settings → Place → List ℕ → Result (ChosenFram
 frame_at st p bytes = do
   side ← head_at st p bytes
   units ← main_at st p side (slot_at st p.number bytes)
-  Ok (record { begin = side.0; units = placed st.channels units }, next_place st p side (slot_at st p.number bytes))
+  Ok (
+    record { begin = side.0; units = placed st.channels units },
+    next_place st p side (slot_at st p.number bytes),
+  )
 
--- the settings of the frame that bytes begin with: those of the first header, which is its own where no frame was read
+-- the settings of the frame that bytes begin with: those of the first header, which is its own
+-- where no frame was read
 abbrev pub settings_by : Option Settings → List ℕ → Option Settings
 settings_by (Some st) bytes = Some st
 settings_by None bytes = settings_at (bits_of (take 4 bytes))
@@ -73,13 +81,15 @@ pub record GivesFrame (old new : Progress) (frame : ChosenFrame) : Type 0 where
 
 -- the bytes that were left begin with the frame, and just its bytes are gone;
 -- what was still read of them is the frame, and then what is still read of those behind it
-pub record BeginsWithFrame (old new : Progress) (frame : ChosenFrame) (left : List ℕ) (now : Option (List ℕ)) : Type 0 where
+pub record BeginsWithFrame (old new : Progress) (frame : ChosenFrame) (left : List ℕ)
+    (now : Option (List ℕ)) : Type 0 where
   pub settings : Settings
   pub told : settings_by old.settings left ≡ Some settings
   pub tells : new.settings ≡ Some settings
   pub is : frame_at settings old.place left ≡ Ok (frame, new.place)
   pub gone : now ≡ Some (drop (frame_bytes_of settings old.place.number) left)
-  pub reading : still_read old left ≡ with_frames (frame ∷ []) (still_read new (drop (frame_bytes_of settings old.place.number) left))
+  pub reading : still_read old left
+      ≡ with_frames (frame ∷ []) (still_read new (drop (frame_bytes_of settings old.place.number) left))
 
 -- no byte was left, and the stream ends here
 pub record HasEnded (p : Progress) (left : List ℕ) (now : Option (List ℕ)) : Type 0 where
@@ -87,33 +97,40 @@ pub record HasEnded (p : Progress) (left : List ℕ) (now : Option (List ℕ)) :
   pub still : now ≡ Some []
   pub reading : still_read p left ≡ Ok (record { settings = p.settings; frames = [] })
 
--- how many bytes are read of a frame of this size that is refused: its header, where that alone refuses it
+-- how many bytes are read of a frame of this size that is refused: its header, where that alone
+-- refuses it
 abbrev pub bytes_read : StreamFault → ℕ → ℕ
 bytes_read (faults.BadHeader at) size = 4
 bytes_read (faults.TooLong at) size = 4
 bytes_read fault size = size
 
--- what is left behind a frame of this size that is refused; where a read failed, fewer bytes are gone than the frame has
+-- what is left behind a frame of this size that is refused; where a read failed, fewer bytes are
+-- gone than the frame has
 abbrev pub LeavesBehind : StreamFault → ℕ → List ℕ → Option (List ℕ) → Type 0
-LeavesBehind faults.Read size left now = (bytes : List ℕ) × (length bytes < size) × Consumes (Some left) now bytes
+LeavesBehind faults.Read size left now =
+    (bytes : List ℕ) × (length bytes < size) × Consumes (Some left) now bytes
 LeavesBehind fault size left now = now ≡ Some (drop (bytes_read fault size) left)
 
 -- so many frames that bytes begin with, and where reading stands behind them
-unfoldable pub first_frames : Settings → ℕ → Place → List ℕ → Result (List ChosenFrame × Place) StreamFault
+unfoldable pub first_frames : Settings → ℕ → Place → List ℕ
+    → Result (List ChosenFrame × Place) StreamFault
 first_frames st zero p bytes = Ok ([], p)
 first_frames st (suc n) p bytes = do
   first ← frame_at st p bytes
   others ← first_frames st n first.1 (drop (frame_bytes_of st p.number) bytes)
   Ok (first.0 ∷ others.0, others.1)
 
--- these are the first frames of bytes, and reading stands behind them, under the settings of their first header
+-- these are the first frames of bytes, and reading stands behind them, under the settings of their
+-- first header
 abbrev pub AreFirst : List ℕ → List ChosenFrame → Option Settings → Place → Type 0
 AreFirst bytes frames None p = (frames ≡ []) × (p ≡ first_place)
-AreFirst bytes frames (Some st) p = (settings_at (bits_of (take 4 bytes)) ≡ Some st) × (first_frames st (length frames) first_place bytes ≡ Ok (frames, p))
+AreFirst bytes frames (Some st) p = (settings_at (bits_of (take 4 bytes)) ≡ Some st)
+    × (first_frames st (length frames) first_place bytes ≡ Ok (frames, p))
 
--- a reader that began with these bytes has given these frames: what they are read as is these frames, and then what is
--- still read of the bytes behind them
-pub record HasGiven (limit : ℕ) (bytes : List ℕ) (frames : List ChosenFrame) (p : Progress) (left : Option (List ℕ)) : Type 0 where
+-- a reader that began with these bytes has given these frames: what they are read as is these
+-- frames, and then what is still read of the bytes behind them
+pub record HasGiven (limit : ℕ) (bytes : List ℕ) (frames : List ChosenFrame) (p : Progress)
+    (left : Option (List ℕ)) : Type 0 where
   pub most : p.limit ≡ limit
   pub goes_on : p.fault ≡ None
   pub number : length frames ≡ p.place.number
@@ -121,14 +138,18 @@ pub record HasGiven (limit : ℕ) (bytes : List ℕ) (frames : List ChosenFrame)
   pub behind : left ≡ Some (drop p.place.at bytes)
   pub reading : reading_of limit bytes ≡ with_frames frames (still_read p (drop p.place.at bytes))
 
--- what is left where reading stops behind these frames: want of memory comes behind a whole frame, and leaves what follows it;
--- any other fault comes at the next frame, or at the end of the bytes
-abbrev pub StopsBehind : StreamFault → List ChosenFrame → Progress → List ℕ → Option (List ℕ) → Type 0
+-- what is left where reading stops behind these frames: want of memory comes behind a whole frame,
+-- and leaves what follows it; any other fault comes at the next frame, or at the end of the bytes
+abbrev pub StopsBehind : StreamFault → List ChosenFrame → Progress → List ℕ → Option (List ℕ)
+    → Type 0
 StopsBehind faults.Memory frames p left now = (0 < length frames) × (now ≡ Some left)
-StopsBehind fault frames p left now = LeavesBehind fault (bytes_by (settings_by p.settings left) p.place.number) left now
+StopsBehind fault frames p left now = LeavesBehind fault
+    (bytes_by (settings_by p.settings left) p.place.number) left now
 
--- a reading of at most so many frames has stopped with a fault behind some whole frames of these bytes
-pub record HasStopped (limit : ℕ) (bytes : List ℕ) (fault : StreamFault) (now : Option (List ℕ)) : Type 0 where
+-- a reading of at most so many frames has stopped with a fault behind some whole frames of these
+-- bytes
+pub record HasStopped (limit : ℕ) (bytes : List ℕ) (fault : StreamFault)
+    (now : Option (List ℕ)) : Type 0 where
   pub frames : List ChosenFrame
   pub progress : Progress
   pub given : HasGiven limit bytes frames progress (Some (drop progress.place.at bytes))

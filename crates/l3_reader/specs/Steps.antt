@@ -1,26 +1,23 @@
 -- What the steps of the reader give.
-use Rattle.std.specs.Prelude.{◌≡◌, ℕ, ◌+◌, ◌-◌, ◌*◌, ◌^◌, ◌<◌, ◌≤◌, Bool, List, [], ◌++◌, length, take, drop, slice_index, nat_lt, if◌then◌else◌, ◌⊎◌, ⊤, Option, None, Some, Result, Ok, Err}
+use Rattle.std.specs.Prelude.{◌≡◌, ℕ, ◌+◌, ◌-◌, ◌*◌, ◌^◌, ◌<◌, ◌≤◌, Bool, List, [], ◌++◌, length, take, drop, ◌⊎◌, ⊤, Option, None, Some, Result, Ok, Err}
 use Rattle.l3_bits.specs.Bits.{bits_of}
 use Rattle.l3_base.specs.declared.settings.Settings.{Settings}
 use Rattle.l3_base.specs.Lengths.{slots_before, slot_bytes_of}
 use Rattle.l3_stream.specs.declared.fault.StreamFault.{StreamFault}
 use Rattle.l3_stream.specs.declared.fault.StreamFault.TheVariants as faults
-use Rattle.l3_stream.specs.declared.unit.Unit.{Unit}
-use Rattle.l3_stream.specs.Units.{edge}
 use Rattle.l3_stream.specs.Tape.{start_of}
 use Rattle.l3_stream.specs.Deviation.{Place, first_place}
-use Rattle.l3_reader.specs.declared.quantised.Regions.{Regions}
 use Rattle.l3_reader.specs.declared.tape.Tape.{Tape}
 use Rattle.l3_reader.specs.declared.standing.Standing.{Standing}
 use Rattle.l3_reader.specs.InTurn.{Progress}
 
--- an answer, made of the value where there is one (only the inside of this crate)
+-- an answer, made of the value where there is one
 abbrev pub gives : {A B : Type 0} → (A → B) → Result A StreamFault → Result B StreamFault
 gives made (Ok x) = Ok (made x)
 gives made (Err fault) = Err fault
 
--- a fault of a frame whose header is the right one and whose bytes are there, or of the bits around its codes
--- (only the inside of this crate)
+-- a fault of a frame whose header is the right one and whose bytes are there, or of the bits around
+-- its codes
 abbrev pub IsWithin : StreamFault → Type 0
 IsWithin (faults.BadSide at) = ⊤
 IsWithin (faults.BadBegin at) = ⊤
@@ -29,20 +26,17 @@ IsWithin (faults.WrongLength bit) = ⊤
 IsWithin (faults.NotZero bit) = ⊤
 IsWithin other = ⊥
 
--- the regions of a unit (only the inside of this crate)
-abbrev pub regions_of : Settings → Unit → Regions
-regions_of st u = record { tables = u.tables; second = edge st (u.region0 + 1); third = edge st (u.region0 + u.region1 + 2) }
-
--- the table of the pair that begins at a line (only the inside of this crate)
-unfoldable pub table_by : Regions → ℕ → ℕ
-table_by r line = slice_index r.tables (if nat_lt line r.second then 0 else if nat_lt line r.third then 1 else 2)
-
 -- where reading stands, by what is kept of the tape
-abbrev pub place_of : Tape → Place
-place_of t = record { number = t.number; at = t.at; end = t.end; rest = drop (t.end - 8 * t.base) (bits_of (take t.filled t.bytes)) }
+abbrev pub tape_place : Tape → Place
+tape_place t = record {
+  number = t.number;
+  at = t.at;
+  end = t.end;
+  rest = drop (t.end - 8 * t.base) (bits_of (take t.filled t.bytes));
+}
 
 -- the bytes kept go from the byte in which the codes end to the end of the slots so far
-pub record IsKept (st : Settings) (t : Tape) : Type 0 where
+pub record KeepsTape (st : Settings) (t : Tape) : Type 0 where
   pub room : length t.bytes ≡ 4096
   pub number : t.number ≤ 2 ^ 24
   pub at : t.at ≤ 1441 * t.number
@@ -63,8 +57,8 @@ pub record HasRest (t : Tape) : Type 0 where
 
 -- the tape of a reader with these settings, or of one that has read no frame
 abbrev pub IsTapeUnder : Option Settings → Tape → Type 0
-IsTapeUnder None t = (place_of t ≡ first_place) × ((st : Settings) → IsKept st t)
-IsTapeUnder (Some st) t = IsKept st t
+IsTapeUnder None t = (tape_place t ≡ first_place) × ((st : Settings) → KeepsTape st t)
+IsTapeUnder (Some st) t = KeepsTape st t
 
 -- what always holds of where a reader stands
 pub record IsSound (s : Standing) : Type 0 where
@@ -75,38 +69,38 @@ pub record IsSound (s : Standing) : Type 0 where
 
 -- how far a reader has come, by where it stands and the fault at which it has stopped
 abbrev pub progress_of : Standing → Option StreamFault → Progress
-progress_of s fault = record { limit = s.limit; settings = s.settings; place = place_of s.tape; fault = fault }
+progress_of s fault =
+    record { limit = s.limit; settings = s.settings; place = tape_place s.tape; fault = fault }
 
 -- the bits of a slot of so many bytes that stands behind the bytes kept
--- (only the inside of this crate)
-abbrev pub slot_of : Tape → ℕ → List Bool
-slot_of t bytes = bits_of (take bytes (drop t.filled t.bytes))
+abbrev pub slot_behind : Tape → ℕ → List Bool
+slot_behind t bytes = bits_of (take bytes (drop t.filled t.bytes))
 
--- main data of so many bits, with this main_data_begin, is within the tape with the next slot, and ends at a bit
--- (only the inside of this crate)
+-- main data of so many bits, with this main_data_begin, is within the tape with the next slot, and
+-- ends at a bit
 pub record GoesTo (st : Settings) (t : Tape) (begin bits end : ℕ) : Type 0 where
   pub reached : begin ≤ slots_before st t.number
   pub after : t.end ≤ start_of st t.number begin
   pub is : end ≡ start_of st t.number begin + bits
   pub within : bits ≤ 8 * (begin + slot_bytes_of st t.number)
 
--- so many bytes of those that were left were read into the front of a buffer: all that it has room for, or all that were left
--- (only the inside of this crate)
-pub record ReadsFront (left : List ℕ) (n : ℕ) (buffer : List ℕ) (now : Option (List ℕ)) : Type 0 where
+-- so many bytes of those that were left were read into the front of a buffer: all that it has room
+-- for, or all that were left
+pub record ReadsFront (left : List ℕ) (n : ℕ) (buffer : List ℕ) (now : Option (List ℕ)) :
+    Type 0 where
   pub rest : List ℕ
   pub is : now ≡ Some rest
   pub bytes : left ≡ take n buffer ++ rest
   pub short : n < length buffer → rest ≡ []
 
 -- the bytes that were left begin with these, and the others are left
--- (only the inside of this crate)
-pub record BeginsWith (left bytes : List ℕ) (now : Option (List ℕ)) : Type 0 where
+pub record HeaderBegins (left bytes : List ℕ) (now : Option (List ℕ)) : Type 0 where
   pub rest : List ℕ
   pub is : now ≡ Some rest
   pub bytes_are : left ≡ bytes ++ rest
 
--- no header begins a frame of this number at this byte: a read failed, or one frame is too many, or fewer than 4 bytes are left
--- (only the inside of this crate)
+-- no header begins a frame of this number at this byte: a read failed, or one frame is too many, or
+-- fewer than 4 bytes are left
 abbrev pub NoHeader : StreamFault → ℕ → ℕ → ℕ → List ℕ → Type 0
 NoHeader fault limit number at left =
     (fault ≡ faults.Read) ⊎ (((fault ≡ faults.TooLong at) × (limit ≤ number) × (0 < length left))

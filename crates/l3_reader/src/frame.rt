@@ -8,7 +8,7 @@ ghost use Rattle.l3_stream.specs.Fields.{same};
 ghost use Rattle.l3_stream.specs.Frames.{IsCoded};
 ghost use Rattle.l3_stream.specs.Header.{header_at, settings_at};
 ghost use Rattle.l3_reader.specs.InTurn.{frame_at};
-ghost use Rattle.l3_reader.specs.Steps.{IsKept, IsWithin, gives, place_of};
+ghost use Rattle.l3_reader.specs.Steps.{KeepsTape, IsWithin, gives, tape_place};
 
 use crate::StreamFault;
 use crate::main_data::read_main;
@@ -41,16 +41,18 @@ pub(crate) fn read_frame(
     tape: &mut Tape,
     bytes: &[u8],
 ) -> Result<ChosenFrame, StreamFault>
-    requires kept { IsKept settings.now tape.old }
+    requires kept { KeepsTape settings.now tape.old }
     requires number { tape.old.number < 2 ^ 24 }
     requires size { length bytes.now ≡ frame_bytes_of settings.now tape.old.number }
     requires longest { length bytes.now ≤ 1441 }
-    requires header { same (bits_of (take 4 bytes.now)) (header_at settings.now tape.old.number) ≡ true }
-    ensures value { frame_at settings.now (place_of tape.old) bytes.now ≡ gives (λ frame. (frame, place_of tape.new)) result }
+    requires header { same (bits_of (take 4 bytes.now)) (header_at settings.now tape.old.number)
+        ≡ true }
+    ensures value { frame_at settings.now (tape_place tape.old) bytes.now ≡ gives
+        (λ frame. (frame, tape_place tape.new)) result }
     ensures own { IfErr result IsWithin }
-    ensures kept { OnOk result (IsKept settings.now tape.new) }
-    ensures still { OnErr result ((st : Settings) → IsKept st tape.old → IsKept st tape.new) }
-    ensures same { OnErr result (place_of tape.new ≡ place_of tape.old) }
+    ensures kept { OnOk result (KeepsTape settings.now tape.new) }
+    ensures still { OnErr result ((st : Settings) → KeepsTape st tape.old → KeepsTape st tape.new) }
+    ensures same { OnErr result (tape_place tape.new ≡ tape_place tape.old) }
     ensures number { OnOk result (tape.new.number ≡ tape.old.number + 1) }
     ensures coded { IfOk result (λ frame. IsCoded settings.now frame) }
 {

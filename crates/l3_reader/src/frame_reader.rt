@@ -13,7 +13,8 @@ use std::marker::Model;
 
 /// Reads the frames of a stream from a source, one after the other.
 ///
-/// It keeps 4 KB of the joined main data, whatever the length of the stream, and no call takes memory.
+/// It keeps 4 KB of the joined main data, whatever the length of the stream, and no call takes
+/// memory.
 #[derive(Drop)]
 pub struct FrameReader {
     standing: Standing,
@@ -54,24 +55,28 @@ impl FrameReader {
 
     /// Reads the next frame: `None` where the stream has ended.
     ///
-    /// Errors: each fault but `Read` is the first deviation of the stream, with its place. Reading stops there: each later call
-    /// answers the same fault and reads nothing.
+    /// Errors: each fault but `Read` is the first deviation of the stream, with its place. Reading
+    /// stops there: each later call answers the same fault and reads nothing.
     pub fn next<S: Source>(&mut self, source: &mut S) -> Result<Option<ChosenFrame>, StreamFault>
         ensures frame { IfOk result (λ next. IfSome next (λ frame. GivesFrame self.old self.new frame)) }
         ensures begins { IfOk result (λ next. IfSome next (λ frame. IfSome (S.left source.old) (λ left.
             BeginsWithFrame self.old self.new frame left (S.left source.new)))) }
         ensures end { IfOk result (λ next. IfNone next ((self.new ≡ self.old) × (self.old.fault ≡ None))) }
-        ensures ended { IfOk result (λ next. IfNone next (IfSome (S.left source.old) (λ left. HasEnded self.old left (S.left source.new)))) }
-        ensures deviation { IfErr result (λ fault. fault ≢ StreamFault.Read → IfSome (S.left source.old) (λ left. still_read self.old left ≡ Err fault)) }
+        ensures ended { IfOk result (λ next. IfNone next (IfSome (S.left source.old) (λ left.
+            HasEnded self.old left (S.left source.new)))) }
+        ensures deviation { IfErr result (λ fault. fault ≢ StreamFault.Read → IfSome (S.left source.old) (λ left.
+            still_read self.old left ≡ Err fault)) }
         ensures gone { self.old.fault ≡ None → IfErr result (λ fault. IfSome (S.left source.old) (λ left.
-            LeavesBehind fault (bytes_by (settings_by self.old.settings left) self.old.place.number) left (S.left source.new))) }
+            LeavesBehind fault (bytes_by (settings_by self.old.settings left) self.old.place.number)
+            left (S.left source.new))) }
         ensures stopped { IfErr result (λ fault. self.new ≡ record self.old { fault = Some fault }) }
         ensures again { IfSome self.old.fault (λ fault. (result ≡ Err fault) × (source.new ≡ source.old)) }
 
         // It takes no memory, and where a read failed the answer is a read fault.
         ensures memory { result ≢ Err StreamFault.Memory }
         ensures later { S.faults source.old ≤ S.faults source.new }
-        ensures read { self.old.fault ≡ None → result ≡ Err StreamFault.Read → S.faults source.new ≡ count_after (S.faults source.old) }
+        ensures read { self.old.fault ≡ None → result ≡ Err StreamFault.Read
+            → S.faults source.new ≡ count_after (S.faults source.old) }
         ensures steady { result ≢ Err StreamFault.Read → S.faults source.new ≡ S.faults source.old }
     {
         if let Some(fault) = self.fault {

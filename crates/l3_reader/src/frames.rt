@@ -9,7 +9,7 @@ ghost use Rattle.l3_stream.specs.Frames.{IsCoded};
 ghost use Rattle.l3_stream.specs.Faults.{clear};
 ghost use Rattle.l3_reader.specs.Answer.{IsFaultOf};
 ghost use Rattle.l3_reader.specs.InTurn.{LeavesBehind, frame_at};
-ghost use Rattle.l3_reader.specs.Steps.{BeginsWith, HasRest, IsKept, NoHeader, ReadsFront, place_of};
+ghost use Rattle.l3_reader.specs.Steps.{HeaderBegins, HasRest, KeepsTape, NoHeader, ReadsFront, tape_place};
 
 use crate::StreamFault;
 use crate::frame::{is_header, read_frame};
@@ -32,15 +32,19 @@ fn no_bytes() -> [u8; FRAME_LIMIT]
     [0; FRAME_LIMIT]
 }
 
-// Reads into the front of a buffer, all that it has room for or all that is left, and says how many bytes.
+// Reads into the front of a buffer, all that it has room for or all that is left, and says how many
+// bytes.
 fn read_front<S: Source>(source: &mut S, buf: &mut [u8]) -> Result<usize, StreamFault>
-    ensures content { IfOk result (λ n. IfSome (S.left source.old) (λ left. ReadsFront left n buf.new (S.left source.new))) }
+    ensures content { IfOk result (λ n. IfSome (S.left source.old)
+        (λ left. ReadsFront left n buf.new (S.left source.new))) }
     ensures bound { IfOk result (λ n. n ≤ length buf.new) }
     ensures own { IfErr result (λ fault. fault ≡ StreamFault.Read) }
-    ensures gone { OnErr result ((bytes : List ℕ) × (length bytes < length buf.new) × Consumes (S.left source.old) (S.left source.new) bytes) }
+    ensures gone { OnErr result ((bytes : List ℕ) × (length bytes < length buf.new) × Consumes
+        (S.left source.old) (S.left source.new) bytes) }
     ensures steady { OnOk result (S.faults source.new ≡ S.faults source.old) }
     ensures later { S.faults source.old ≤ S.faults source.new }
-    ensures read { result ≡ Err StreamFault.Read → S.faults source.new ≡ count_after (S.faults source.old) }
+    ensures read { result ≡ Err StreamFault.Read
+        → S.faults source.new ≡ count_after (S.faults source.old) }
 {
     match read_full(source, buf) {
         Ok(count) => Ok(count),
@@ -48,23 +52,29 @@ fn read_front<S: Source>(source: &mut S, buf: &mut [u8]) -> Result<usize, Stream
     }
 }
 
-// Reads the header with which a frame of this number begins at this byte, or nothing where no byte is left.
+// Reads the header with which a frame of this number begins at this byte, or nothing where no byte
+// is left.
 pub(crate) fn read_header_bytes<S: Source>(
     source: &mut S,
     limit: u64,
     number: u64,
     at: u64,
 ) -> Result<Option<[u8; HEADER_BYTES]>, StreamFault>
-    ensures ended { IfOk result (λ header. IfNone header (IfSome (S.left source.old) (λ left. (left ≡ []) × (S.left source.new ≡ Some [])))) }
-    ensures begun { IfOk result (λ header. IfSome header (λ bytes. IfSome (S.left source.old) (λ left. BeginsWith left bytes (S.left source.new)))) }
+    ensures ended { IfOk result (λ header. IfNone header (IfSome (S.left source.old)
+        (λ left. (left ≡ []) × (S.left source.new ≡ Some [])))) }
+    ensures begun { IfOk result (λ header. IfSome header (λ bytes. IfSome (S.left source.old)
+        (λ left. HeaderBegins left bytes (S.left source.new)))) }
     ensures few { IfOk result (λ header. IfSome header (λ bytes. number < limit)) }
     ensures four { IfOk result (λ header. IfSome header (λ bytes. length bytes ≡ 4)) }
-    ensures fault { IfErr result (λ fault. IfSome (S.left source.old) (λ left. NoHeader fault limit number at left)) }
-    ensures gone { IfErr result (λ fault. IfSome (S.left source.old) (λ left. LeavesBehind fault 4 left (S.left source.new))) }
+    ensures fault { IfErr result (λ fault. IfSome (S.left source.old)
+        (λ left. NoHeader fault limit number at left)) }
+    ensures gone { IfErr result (λ fault. IfSome (S.left source.old)
+        (λ left. LeavesBehind fault 4 left (S.left source.new))) }
     ensures memory { result ≢ Err StreamFault.Memory }
     ensures steady { result ≢ Err StreamFault.Read → S.faults source.new ≡ S.faults source.old }
     ensures later { S.faults source.old ≤ S.faults source.new }
-    ensures read { result ≡ Err StreamFault.Read → S.faults source.new ≡ count_after (S.faults source.old) }
+    ensures read { result ≡ Err StreamFault.Read
+        → S.faults source.new ≡ count_after (S.faults source.old) }
 {
     let mut header = [0; HEADER_BYTES];
     let count = read_front(source, &mut header)?;
@@ -87,22 +97,28 @@ pub(crate) fn read_whole<S: Source>(
     tape: &mut Tape,
     header: &[u8; HEADER_BYTES],
 ) -> Result<ChosenFrame, StreamFault>
-    requires kept { IsKept settings.now tape.old }
+    requires kept { KeepsTape settings.now tape.old }
     requires number { tape.old.number < 2 ^ 24 }
-    ensures content { IfOk result (λ frame. IfSome (S.left source.old) (λ left. frame_at settings.now (place_of tape.old) (header.now ++ left) ≡ Ok (frame, place_of tape.new))) }
-    ensures fault { IfErr result (λ fault. IfSome (S.left source.old) (λ left. IsFaultOf fault (frame_at settings.now (place_of tape.old) (header.now ++ left)))) }
+    ensures content { IfOk result (λ frame. IfSome (S.left source.old)
+        (λ left. frame_at settings.now (tape_place tape.old) (header.now ++ left)
+        ≡ Ok (frame, tape_place tape.new))) }
+    ensures fault { IfErr result (λ fault. IfSome (S.left source.old)
+        (λ left. IsFaultOf fault (frame_at settings.now (tape_place tape.old) (header.now ++ left)))) }
     ensures gone { IfErr result (λ fault. IfSome (S.left source.old) (λ left.
-        LeavesBehind fault (frame_bytes_of settings.now tape.old.number) (header.now ++ left) (S.left source.new))) }
+        LeavesBehind fault (frame_bytes_of settings.now tape.old.number) (header.now ++ left)
+        (S.left source.new))) }
     ensures memory { result ≢ Err StreamFault.Memory }
     ensures steady { result ≢ Err StreamFault.Read → S.faults source.new ≡ S.faults source.old }
-    ensures rest { OnOk result (IfSome (S.left source.old) (λ left. S.left source.new ≡ Some (drop (frame_bytes_of settings.now tape.old.number) (header.now ++ left)))) }
-    ensures kept { OnOk result (IsKept settings.now tape.new) }
-    ensures still { OnErr result ((st : Settings) → IsKept st tape.old → IsKept st tape.new) }
-    ensures same { OnErr result (place_of tape.new ≡ place_of tape.old) }
+    ensures rest { OnOk result (IfSome (S.left source.old) (λ left. S.left source.new ≡ Some
+        (drop (frame_bytes_of settings.now tape.old.number) (header.now ++ left)))) }
+    ensures kept { OnOk result (KeepsTape settings.now tape.new) }
+    ensures still { OnErr result ((st : Settings) → KeepsTape st tape.old → KeepsTape st tape.new) }
+    ensures same { OnErr result (tape_place tape.new ≡ tape_place tape.old) }
     ensures number { OnOk result (tape.new.number ≡ tape.old.number + 1) }
     ensures coded { IfOk result (λ frame. IsCoded settings.now frame) }
     ensures later { S.faults source.old ≤ S.faults source.new }
-    ensures read { result ≡ Err StreamFault.Read → S.faults source.new ≡ count_after (S.faults source.old) }
+    ensures read { result ≡ Err StreamFault.Read
+        → S.faults source.new ≡ count_after (S.faults source.old) }
 {
     if !is_header(settings, tape.number, header) {
         return Err(StreamFault::BadHeader(tape.at));
@@ -121,7 +137,7 @@ pub(crate) fn read_whole<S: Source>(
 // Whether the tape is 0 behind the codes so far.
 pub(crate) fn test_rest(tape: &Tape) -> Result<(), StreamFault>
     requires rest { HasRest tape.now }
-    ensures { result ≡ clear tape.now.end (place_of tape.now).rest }
+    ensures { result ≡ clear tape.now.end (tape_place tape.now).rest }
 {
     let first = 8 * tape.base;
     let bits = 8 * tape.filled as u64;

@@ -1,4 +1,5 @@
-//! The main data of a frame: where it begins, the zeros before it, and its units (ISO/IEC 11172-3, 2.4, main_data_begin).
+//! The main data of a frame: where it begins, the zeros before it, and its units (ISO/IEC 11172-3,
+//! 2.4, main_data_begin).
 
 ghost use Rattle.std.specs.Prelude.{◌≡◌, ◌≤◌, ◌<◌, ◌+◌, ◌-◌, ◌*◌, ◌^◌, IfSome, IfNone, IfOk, OnOk, length};
 ghost use Rattle.std.specs.List.{AllByRecursion};
@@ -9,14 +10,14 @@ ghost use Rattle.l3_stream.specs.Frames.{placed, units_number, units_of};
 ghost use Rattle.l3_stream.specs.Faults.{clear};
 ghost use Rattle.l3_stream.specs.Deviation.{main_at};
 ghost use Rattle.l3_side.specs.Reading.{IsBare, side_in};
-ghost use Rattle.l3_reader.specs.Steps.{GoesTo, IsKept, gives, place_of, slot_of};
+ghost use Rattle.l3_reader.specs.Steps.{GoesTo, KeepsTape, gives, tape_place, slot_behind};
 
 use crate::StreamFault;
 use crate::tape::Tape;
 use crate::units::read_units;
-use l3_base::{Channels, Settings};
+use l3_base::Settings;
 use l3_bits::take_bits;
-use l3_stream::{ChosenFrame, Unit};
+use l3_stream::ChosenFrame;
 
 // Whether bits are 0, from bit `at` to `end`. Bit 0 of the bytes is bit `first` of the tape.
 pub(crate) fn test_zeros(first: u64, bytes: &[u8], at: u64, end: u64) -> Result<(), StreamFault>
@@ -38,36 +39,14 @@ pub(crate) fn test_zeros(first: u64, bytes: &[u8], at: u64, end: u64) -> Result<
     Ok(())
 }
 
-// `part2_3_length` of a unit.
-fn unit_length(unit: &Unit) -> u64
-    ensures value { result ≡ unit.now.length }
-    ensures small { result < 2 ^ 16 }
-{
-    u64::from(unit.length)
-}
-
-// The sum of `part2_3_length` of a frame's units.
-fn units_length(settings: &Settings, frame: &ChosenFrame) -> u64
-    requires shape { frame.now.units ≡ placed settings.now.channels (units_of settings.now.channels frame.now.units) }
-    requires number { length (units_of settings.now.channels frame.now.units) ≡ units_number settings.now.channels }
-    ensures { result ≡ lengths (units_of settings.now.channels frame.now.units) }
-{
-    let units = &frame.units;
-    match settings.channels {
-        Channels::Mono => unit_length(&units[0][0]) + unit_length(&units[1][0]),
-        Channels::Stereo => {
-            unit_length(&units[0][0])
-                + (unit_length(&units[0][1])
-                    + (unit_length(&units[1][0]) + unit_length(&units[1][1])))
-        }
-    }
-}
-
-// The tape bit at which the main data begins: within the tape so far, and not before the codes of the frame before end.
+// The tape bit at which the main data begins: within the tape so far, and not before the codes of
+// the frame before end.
 fn main_start(tape: &Tape, begin: u16) -> Option<u64>
     requires small { tape.now.base + tape.now.filled < 2 ^ 60 }
-    ensures some { IfSome result (λ start. (begin ≤ tape.now.base + tape.now.filled) × (start ≡ 8 * (tape.now.base + tape.now.filled - begin)) × (tape.now.end ≤ start)) }
-    ensures none { IfNone result (begin ≤ tape.now.base + tape.now.filled → tape.now.end ≤ 8 * (tape.now.base + tape.now.filled - begin) → ⊥) }
+    ensures some { IfSome result (λ start. (begin ≤ tape.now.base + tape.now.filled)
+        × (start ≡ 8 * (tape.now.base + tape.now.filled - begin)) × (tape.now.end ≤ start)) }
+    ensures none { IfNone result (begin ≤ tape.now.base + tape.now.filled → tape.now.end ≤ 8 *
+        (tape.now.base + tape.now.filled - begin) → ⊥) }
 {
     let slots = tape.base + tape.filled as u64;
     if slots < u64::from(begin) {
@@ -86,17 +65,23 @@ pub(crate) fn read_main(
     slot_bytes: usize,
     frame: &mut ChosenFrame,
 ) -> Result<u64, StreamFault>
-    requires kept { IsKept settings.now tape.now }
+    requires kept { KeepsTape settings.now tape.now }
     requires slot { slot_bytes ≡ slot_bytes_of settings.now tape.now.number }
     requires room { slot_bytes ≤ 1420 }
-    requires shape { frame.old.units ≡ placed settings.now.channels (units_of settings.now.channels frame.old.units) }
-    requires number { length (units_of settings.now.channels frame.old.units) ≡ units_number settings.now.channels }
+    requires shape { frame.old.units ≡ placed settings.now.channels
+        (units_of settings.now.channels frame.old.units) }
+    requires number { length (units_of settings.now.channels frame.old.units)
+        ≡ units_number settings.now.channels }
     requires fields { AllByRecursion HasFields (units_of settings.now.channels frame.old.units) }
     requires bare { AllByRecursion IsBare (units_of settings.now.channels frame.old.units) }
-    ensures value { main_at settings.now (place_of tape.now) (side_in settings.now.channels frame.old) (slot_of tape.now slot_bytes) ≡ gives (λ _. units_of settings.now.channels frame.new.units) result }
-    ensures shape { OnOk result (frame.new.units ≡ placed settings.now.channels (units_of settings.now.channels frame.new.units)) }
+    ensures value { main_at settings.now (tape_place tape.now)
+        (side_in settings.now.channels frame.old) (slot_behind tape.now slot_bytes) ≡ gives
+        (λ _. units_of settings.now.channels frame.new.units) result }
+    ensures shape { OnOk result (frame.new.units ≡ placed settings.now.channels
+        (units_of settings.now.channels frame.new.units)) }
     ensures begin { frame.new.begin ≡ frame.old.begin }
-    ensures end { IfOk result (λ end. GoesTo settings.now tape.now frame.old.begin (lengths (units_of settings.now.channels frame.old.units)) end) }
+    ensures end { IfOk result (λ end. GoesTo settings.now tape.now frame.old.begin
+        (lengths (units_of settings.now.channels frame.old.units)) end) }
 {
     let Some(start) = main_start(tape, frame.begin) else {
         return Err(StreamFault::BadBegin(tape.at));
@@ -108,7 +93,7 @@ pub(crate) fn read_main(
         tape.end - first,
         start - first,
     )?;
-    let length = units_length(settings, frame);
+    let length = frame.main_data_length();
     if length > 8 * (u64::from(frame.begin) + slot_bytes as u64) {
         return Err(StreamFault::WrongLength(start));
     }

@@ -1,64 +1,18 @@
-//! The quantised values of a unit: pairs, each with its region's table, and quadruples until no bit is left.
+//! The quantised values of a unit: pairs, each with its region's table, and quadruples until no bit
+//! is left.
 
 ghost use Rattle.std.specs.Prelude.{◌≡◌, ◌≤◌, ◌<◌, ◌+◌, ◌-◌, ◌*◌, ◌/◌, ◌^◌, IfOk, drop, length, slice_index, take};
-ghost use Rattle.l3_base.specs.Rates.{hertz_index_of};
-ghost use Rattle.l3_huff.specs.Tables.{IsTable};
 ghost use Rattle.l3_huff.specs.Words.{between};
-ghost use Rattle.l3_stream.specs.Units.{HasFields, edge, zero_lines};
+ghost use Rattle.l3_stream.specs.Units.{table_by, zero_lines};
 ghost use Rattle.l3_stream.specs.UnitReading.{pairs_at, quads_at};
-ghost use Rattle.l3_reader.specs.Steps.{gives, regions_of, table_by};
+ghost use Rattle.l3_reader.specs.Steps.{gives};
 
 use crate::StreamFault;
-use l3_base::Settings;
 use l3_huff::{QuadTable, read_pair, read_quad};
-use l3_stream::Unit;
+use l3_stream::Regions;
 
-// The regions of a unit's pairs: their tables, and where the second and the third region begin.
-#[derive(Clone, Copy)]
-pub(crate) struct Regions {
-    tables: [u8; 3],
-    second: usize,
-    third: usize,
-}
-
-impl Regions {
-    // The regions that a unit's side information tells.
-    pub(crate) fn of(settings: &Settings, unit: &Unit) -> Regions
-        requires { HasFields unit.now }
-        ensures { result ≡ regions_of settings.now unit.now }
-    {
-        let band = usize::from(unit.region0) + 1;
-        Regions {
-            tables: unit.tables,
-            second: first_line(settings, band),
-            third: first_line(settings, band + usize::from(unit.region1) + 1),
-        }
-    }
-
-    // `table_select` of the pair that begins at a line.
-    fn table(&self, line: usize) -> u8
-        requires { length self.now.tables ≡ 3 }
-        ensures { result ≡ table_by self.now line }
-    {
-        if line < self.second {
-            self.tables[0]
-        } else if line < self.third {
-            self.tables[1]
-        } else {
-            self.tables[2]
-        }
-    }
-}
-
-// The first line of a scale factor band.
-fn first_line(settings: &Settings, band: usize) -> usize
-    requires { band ≤ 22 }
-    ensures { result ≡ edge settings.now band }
-{
-    usize::from(l3_tables::edge(settings.sample_rate.index(), band))
-}
-
-// Reads pairs into lines, from bit `at` on, and gives the bit behind them. Bit 0 of the bytes is bit `first` of the tape.
+// Reads pairs into lines, from bit `at` on, and gives the bit behind them. Bit 0 of the bytes is
+// bit `first` of the tape.
 pub(crate) fn read_pairs(
     regions: &Regions,
     first: u64,
@@ -71,12 +25,9 @@ pub(crate) fn read_pairs(
     requires order { at ≤ end }
     requires within { end ≤ 8 * length bytes.now }
     requires room { length lines.old ≤ 576 }
-    requires three { length regions.now.tables ≡ 3 }
-    requires table0 { IsTable (slice_index regions.now.tables 0) }
-    requires table1 { IsTable (slice_index regions.now.tables 1) }
-    requires table2 { IsTable (slice_index regions.now.tables 2) }
     requires even { length lines.old ≡ 2 * (length lines.old / 2) }
-    ensures value { pairs_at (table_by regions.now) (first + end) 0 (length lines.old / 2) (between bytes.now at end) ≡ gives (λ next. (lines.new, between bytes.now next end)) result }
+    ensures value { pairs_at (table_by regions.now) (first + end) 0 (length lines.old / 2)
+        (between bytes.now at end) ≡ gives (λ next. (lines.new, between bytes.now next end)) result }
     ensures within { IfOk result (λ next. next ≤ end) }
     ensures size { length lines.new ≡ length lines.old }
 {
@@ -108,9 +59,11 @@ pub(crate) fn read_quads(
     requires within { end ≤ 8 * length bytes.now }
     requires room { length lines.old ≤ 576 }
     requires zeros { lines.old ≡ zero_lines (length lines.old) }
-    ensures value { quads_at table (first + end) (length lines.old / 4) (between bytes.now at end) ≡ gives (λ count. take (4 * count) lines.new) result }
+    ensures value { quads_at table (first + end) (length lines.old / 4) (between bytes.now at end)
+        ≡ gives (λ count. take (4 * count) lines.new) result }
     ensures count { IfOk result (λ count. 4 * count ≤ length lines.old) }
-    ensures past { IfOk result (λ count. drop (4 * count) lines.new ≡ zero_lines (length lines.old - 4 * count)) }
+    ensures past { IfOk result (λ count. drop (4 * count) lines.new ≡ zero_lines
+        (length lines.old - 4 * count)) }
     ensures size { length lines.new ≡ length lines.old }
 {
     let mut place = at;

@@ -37,7 +37,8 @@ impl Standing {
     }
 }
 
-// The settings of the frame with this header: those of the first header, which is this one where no frame was read.
+// The settings of the frame with this header: those of the first header, which is this one where no
+// frame was read.
 fn settings_under(settings: Option<Settings>, header: &[u8; 4]) -> Result<Settings, StreamFault>
     ensures { result ≡ or_fault (StreamFault.BadHeader 0) (settings_by settings header.now) }
 {
@@ -56,19 +57,27 @@ pub(crate) fn read_next<S: Source>(
     source: &mut S,
 ) -> Result<Option<ChosenFrame>, StreamFault>
     requires sound { IsSound standing.old }
-    ensures frame { IfOk result (λ next. IfSome next (λ frame. GivesFrame (progress_of standing.old None) (progress_of standing.new None) frame)) }
+    ensures frame { IfOk result
+        (λ next. IfSome next (λ frame. GivesFrame (progress_of standing.old None)
+        (progress_of standing.new None) frame)) }
     ensures begins { IfOk result (λ next. IfSome next (λ frame. IfSome (S.left source.old) (λ left.
-        BeginsWithFrame (progress_of standing.old None) (progress_of standing.new None) frame left (S.left source.new)))) }
-    ensures end { IfOk result (λ next. IfNone next (progress_of standing.new None ≡ progress_of standing.old None)) }
-    ensures ended { IfOk result (λ next. IfNone next (IfSome (S.left source.old) (λ left. HasEnded (progress_of standing.old None) left (S.left source.new)))) }
-    ensures deviation { IfErr result (λ fault. fault ≢ StreamFault.Read → IfSome (S.left source.old) (λ left. still_read (progress_of standing.old None) left ≡ Err fault)) }
+        BeginsWithFrame (progress_of standing.old None) (progress_of standing.new None) frame
+        left (S.left source.new)))) }
+    ensures end { IfOk result
+        (λ next. IfNone next (progress_of standing.new None ≡ progress_of standing.old None)) }
+    ensures ended { IfOk result (λ next. IfNone next (IfSome (S.left source.old)
+        (λ left. HasEnded (progress_of standing.old None) left (S.left source.new)))) }
+    ensures deviation { IfErr result (λ fault. fault ≢ StreamFault.Read → IfSome (S.left source.old)
+        (λ left. still_read (progress_of standing.old None) left ≡ Err fault)) }
     ensures gone { IfErr result (λ fault. IfSome (S.left source.old) (λ left.
-        LeavesBehind fault (bytes_by (settings_by standing.old.settings left) standing.old.tape.number) left (S.left source.new))) }
+        LeavesBehind fault (bytes_by (settings_by standing.old.settings left) standing.old.tape.number)
+        left (S.left source.new))) }
     ensures stopped { OnErr result (progress_of standing.new None ≡ progress_of standing.old None) }
     ensures sound { IsSound standing.new }
     ensures memory { result ≢ Err StreamFault.Memory }
     ensures later { S.faults source.old ≤ S.faults source.new }
-    ensures read { result ≡ Err StreamFault.Read → S.faults source.new ≡ count_after (S.faults source.old) }
+    ensures read { result ≡ Err StreamFault.Read
+        → S.faults source.new ≡ count_after (S.faults source.old) }
     ensures steady { result ≢ Err StreamFault.Read → S.faults source.new ≡ S.faults source.old }
 {
     let limit = u64::from(standing.limit);

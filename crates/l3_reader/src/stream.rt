@@ -35,26 +35,32 @@ fn keep(frames: &mut Vec<ChosenFrame>, frame: ChosenFrame) -> Result<(), StreamF
 
 /// Reads a stream of at most `limit` frames to its end.
 ///
-/// The frames are tried in order by the rules of reading, and the first one that refuses decides: each fault but `Read` and `Memory`
-/// is the stream's first deviation, with its place. A frame takes about 5 KB of memory.
+/// The frames are tried in order by the rules of reading, and the first one that refuses decides:
+/// each fault but `Read` and `Memory` is the stream's first deviation, with its place. A frame
+/// takes about 5 KB of memory.
 pub fn read_stream<S: Source>(
     alloc: Global,
     limit: u32,
     source: &mut S,
 ) -> Result<Stream, StreamFault>
     requires { limit ≤ 16777216 }
-    ensures content { IfOk result (λ stream. IfSome (S.left source.old) (λ left. reading_of limit left ≡ Ok (content_in stream))) }
-    ensures fault { IfErr result (λ fault. IfSome (S.left source.old) (λ left. IsFaultOf fault (reading_of limit left))) }
+    ensures content { IfOk result (λ stream. IfSome (S.left source.old)
+        (λ left. reading_of limit left ≡ Ok (content_in stream))) }
+    ensures fault { IfErr result (λ fault. IfSome (S.left source.old)
+        (λ left. IsFaultOf fault (reading_of limit left))) }
     ensures rest { OnOk result (IfSome (S.left source.old) (λ _. S.left source.new ≡ Some [])) }
-    ensures stopped { IfErr result (λ fault. IfSome (S.left source.old) (λ left. HasStopped limit left fault (S.left source.new))) }
+    ensures stopped { IfErr result (λ fault. IfSome (S.left source.old)
+        (λ left. HasStopped limit left fault (S.left source.new))) }
 
     // Whatever the source tells:
     ensures few { IfOk result (λ stream. length stream.frames.items ≤ limit) }
-    ensures coded { IfOk result (λ stream. IfSome stream.settings (λ st. All (IsCoded st) stream.frames.items)) }
+    ensures coded { IfOk result (λ stream. IfSome stream.settings
+        (λ st. All (IsCoded st) stream.frames.items)) }
     ensures none { IfOk result (λ stream. stream.settings ≡ None → stream.frames.items ≡ []) }
     ensures empty { IfOk result (λ stream. stream.frames.items ≡ [] → stream.settings ≡ None) }
     ensures later { S.faults source.old ≤ S.faults source.new }
-    ensures read { result ≡ Err StreamFault.Read → S.faults source.new ≡ count_after (S.faults source.old) }
+    ensures read { result ≡ Err StreamFault.Read
+        → S.faults source.new ≡ count_after (S.faults source.old) }
     ensures steady { result ≢ Err StreamFault.Read → S.faults source.new ≡ S.faults source.old }
 {
     let mut frames = Vec::new(alloc);

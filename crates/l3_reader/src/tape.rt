@@ -3,14 +3,16 @@
 ghost use Rattle.std.specs.Prelude.{◌≡◌, ◌≤◌, ◌<◌, ◌+◌, ◌-◌, ◌*◌, ◌/◌, ◌^◌, drop, length, replicate, take};
 ghost use Rattle.l3_base.specs.declared.settings.Settings.{Settings};
 ghost use Rattle.l3_stream.specs.Deviation.{first_place};
-ghost use Rattle.l3_reader.specs.Steps.{HasRest, IsKept, place_of};
+ghost use Rattle.l3_reader.specs.Steps.{HasRest, KeepsTape, tape_place};
 
-// Bytes of the tape that are kept: at most 511 before a slot, that slot and the next one, each of at most 1420.
+// Bytes of the tape that are kept: at most 511 before a slot, that slot and the next one, each of
+// at most 1420.
 pub(crate) const KEPT_BYTES: usize = 4096;
 
 // Where reading stands: a frame begins, and the codes before it end at a bit of the tape.
 //
-// `main_data_begin` is at most 511, so the codes of a frame end no earlier than 511 bytes before its slot, and the bytes kept are few.
+// `main_data_begin` is at most 511, so the codes of a frame end no earlier than 511 bytes before
+// its slot, and the bytes kept are few.
 #[derive(Drop)]
 pub(crate) struct Tape {
     // The number of the frame.
@@ -36,8 +38,8 @@ fn no_bytes() -> [u8; KEPT_BYTES]
 impl Tape {
     // The start of the file.
     pub(crate) fn start() -> Tape
-        ensures place { place_of result ≡ first_place }
-        ensures kept { (st : Settings) → IsKept st result }
+        ensures place { tape_place result ≡ first_place }
+        ensures kept { (st : Settings) → KeepsTape st result }
         ensures rest { HasRest result }
     {
         let bytes = no_bytes();
@@ -63,7 +65,8 @@ impl Tape {
         self.bytes[self.filled..self.filled + slot.len()].copy_from_slice(slot);
     }
 
-    // Goes on behind a frame whose slot stands behind the bytes kept, and whose codes end at a tape bit.
+    // Goes on behind a frame whose slot stands behind the bytes kept, and whose codes end at a tape
+    // bit.
     pub(crate) fn pass(&mut self, slot_bytes: usize, frame_bytes: usize, end: u64)
         requires number { self.old.number < 2 ^ 32 }
         requires at { self.old.at + frame_bytes < 2 ^ 64 }
@@ -75,8 +78,10 @@ impl Tape {
         ensures at { self.new.at ≡ self.old.at + frame_bytes }
         ensures end { self.new.end ≡ end }
         ensures base { self.new.base ≡ end / 8 }
-        ensures filled { self.new.base + self.new.filled ≡ self.old.base + (self.old.filled + slot_bytes) }
-        ensures kept { take self.new.filled self.new.bytes ≡ drop (end / 8 - self.old.base) (take (self.old.filled + slot_bytes) self.old.bytes) }
+        ensures filled { self.new.base + self.new.filled ≡ self.old.base +
+            (self.old.filled + slot_bytes) }
+        ensures kept { take self.new.filled self.new.bytes ≡ drop (end / 8 - self.old.base)
+            (take (self.old.filled + slot_bytes) self.old.bytes) }
         ensures bytes { length self.new.bytes ≡ 4096 }
     {
         let whole = self.filled + slot_bytes;

@@ -6,7 +6,8 @@ use l3_io::{MemSource, Source, SteadySource, read_full};
 use std::alloc::{AllocError, Global};
 use std::test::Fail;
 
-// The stream of one zero sample: mono, 44100 Hz, 128 kbit/s; main_data_begin of the second frame is 396.
+// The stream of one zero sample: mono, 44100 Hz, 128 kbit/s; main_data_begin of the second frame is
+// 396.
 fn zero_sample() -> [u8; 835] {
     let mut bytes = [0; 835];
     bytes[0] = 0xFF;
@@ -66,9 +67,9 @@ fn deviations_of_one_zero_sample(rt: HostRuntime) -> Result<(), Fail> {
         (Err(StreamFault::ShortFrame(417)), Ok(0))
     );
 
-    // One byte is changed: the last one, the first, the first frame's padding, the second header, a begin of 397, a private bit,
-    // and the first unit's part2_3_length, which is then 1: the bit 0 is no whole code.
-    // Behind a header that refuses its frame 4 bytes of the frame are gone, behind any other fault all of them.
+    // One byte is changed: the last one, the first, the first frame's padding, the second header, a
+    // begin of 397, a private bit. Behind a header that refuses its frame 4 bytes of the frame are
+    // gone, behind any other fault all of them.
     let cases = [
         (834, 0x01, StreamFault::NotZero(6343), 0),
         (0, 0x00, StreamFault::BadHeader(0), 831),
@@ -76,7 +77,6 @@ fn deviations_of_one_zero_sample(rt: HostRuntime) -> Result<(), Fail> {
         (417, 0x00, StreamFault::BadHeader(417), 414),
         (422, 0x80, StreamFault::BadBegin(417), 0),
         (422, 0x40, StreamFault::BadSide(417), 0),
-        (7, 0x04, StreamFault::BadCode(0), 418),
     ];
     for (at, value, fault, left) in cases {
         let mut bytes = zero_sample();
@@ -93,8 +93,22 @@ fn deviations_of_one_zero_sample(rt: HostRuntime) -> Result<(), Fail> {
 }
 
 #[test]
+fn half_a_quadruple_code(rt: HostRuntime) -> Result<(), Fail> {
+    // The first unit's part2_3_length is 1, and the bit 0 is no whole code. Just the first frame is
+    // gone then.
+    let mut bytes = zero_sample();
+    bytes[7] = 0x04;
+    assert_eq!(rt;
+        frames_read(rt.alloc(), 2, &bytes)?,
+        (Err(StreamFault::BadCode(0)), Ok(418))
+    );
+    Ok(())
+}
+
+#[test]
 fn a_read_fails_in_mid_stream(rt: HostRuntime) -> Result<(), Fail> {
-    // Pieces of 100 bytes: the first frame takes 6 reads, the second header one, and the next one fails.
+    // Pieces of 100 bytes: the first frame takes 6 reads, the second header one, and the next one
+    // fails.
     let bytes = zero_sample();
     let mut source = MemSource::new(rt.alloc(), &bytes, 100, &[7])?;
     let read = read_stream(rt.alloc(), 2, &mut source);

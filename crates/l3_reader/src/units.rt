@@ -12,11 +12,12 @@ ghost use Rattle.l3_side.specs.Reading.{IsBare};
 ghost use Rattle.l3_reader.specs.Steps.{gives};
 
 use crate::StreamFault;
-use crate::quantised::{Regions, read_pairs, read_quads};
+use crate::quantised::{read_pairs, read_quads};
 use l3_base::{Channels, Settings};
-use l3_stream::{ChosenFrame, Unit};
+use l3_stream::{ChosenFrame, Regions, Unit};
 
-// Reads the lines of a unit that has its side information, from bit `at` on, and gives the bit behind it.
+// Reads the lines of a unit that has its side information, from bit `at` on, and gives the bit
+// behind it.
 fn read_unit(
     settings: &Settings,
     first: u64,
@@ -28,7 +29,8 @@ fn read_unit(
     requires fields { HasFields unit.old }
     requires bare { IsBare unit.old }
     requires within { at + unit.old.length ≤ 8 * length bytes.now }
-    ensures value { unit_at settings.now (first + (at + unit.old.length)) unit.old (between bytes.now at (at + unit.old.length)) ≡ gives (λ _. unit.new) result }
+    ensures value { unit_at settings.now (first + (at + unit.old.length)) unit.old
+        (between bytes.now at (at + unit.old.length)) ≡ gives (λ _. unit.new) result }
     ensures next { IfOk result (λ next. next ≡ at + unit.old.length) }
 {
     let end = at + u64::from(unit.length);
@@ -53,7 +55,8 @@ fn read_granule(
     requires fields { AllByRecursion HasFields units.old }
     requires bare { AllByRecursion IsBare units.old }
     requires within { at + lengths units.old ≤ 8 * length bytes.now }
-    ensures value { main_units_at settings.now (first + at) units.old (drop at (bits_of bytes.now)) ≡ gives (λ _. units.new) result }
+    ensures value { main_units_at settings.now (first + at) units.old (drop at (bits_of bytes.now))
+        ≡ gives (λ _. units.new) result }
     ensures next { IfOk result (λ next. next ≡ at + lengths units.old) }
     ensures two { length units.new ≡ 2 }
 {
@@ -76,8 +79,10 @@ fn read_mono(
     requires fields { AllByRecursion HasFields (units_of Channels.Mono units.old) }
     requires bare { AllByRecursion IsBare (units_of Channels.Mono units.old) }
     requires within { at + lengths (units_of Channels.Mono units.old) ≤ 8 * length bytes.now }
-    ensures value { main_units_at settings.now (first + at) (units_of Channels.Mono units.old) (drop at (bits_of bytes.now)) ≡ gives (λ _. units_of Channels.Mono units.new) result }
-    ensures shape { OnOk result (units.new ≡ placed Channels.Mono (units_of Channels.Mono units.new)) }
+    ensures value { main_units_at settings.now (first + at) (units_of Channels.Mono units.old)
+        (drop at (bits_of bytes.now)) ≡ gives (λ _. units_of Channels.Mono units.new) result }
+    ensures shape { OnOk result (units.new ≡ placed Channels.Mono
+        (units_of Channels.Mono units.new)) }
     ensures next { IfOk result (λ next. next ≡ at + lengths (units_of Channels.Mono units.old)) }
 {
     let next = read_unit(settings, first, bytes, at, &mut units[0][0])?;
@@ -99,8 +104,10 @@ fn read_stereo(
     requires fields { AllByRecursion HasFields (units_of Channels.Stereo units.old) }
     requires bare { AllByRecursion IsBare (units_of Channels.Stereo units.old) }
     requires within { at + lengths (units_of Channels.Stereo units.old) ≤ 8 * length bytes.now }
-    ensures value { main_units_at settings.now (first + at) (units_of Channels.Stereo units.old) (drop at (bits_of bytes.now)) ≡ gives (λ _. units_of Channels.Stereo units.new) result }
-    ensures shape { OnOk result (units.new ≡ placed Channels.Stereo (units_of Channels.Stereo units.new)) }
+    ensures value { main_units_at settings.now (first + at) (units_of Channels.Stereo units.old)
+        (drop at (bits_of bytes.now)) ≡ gives (λ _. units_of Channels.Stereo units.new) result }
+    ensures shape { OnOk result (units.new ≡ placed Channels.Stereo
+        (units_of Channels.Stereo units.new)) }
     ensures next { IfOk result (λ next. next ≡ at + lengths (units_of Channels.Stereo units.old)) }
 {
     let next = read_granule(settings, first, bytes, at, &mut units[0])?;
@@ -108,7 +115,8 @@ fn read_stereo(
     Ok(end)
 }
 
-// Reads the units of a frame that has its side information, from bit `at` on, and gives the bit behind them.
+// Reads the units of a frame that has its side information, from bit `at` on, and gives the bit
+// behind them.
 pub(crate) fn read_units(
     settings: &Settings,
     first: u64,
@@ -117,14 +125,21 @@ pub(crate) fn read_units(
     frame: &mut ChosenFrame,
 ) -> Result<u64, StreamFault>
     requires first { first + 8 * length bytes.now < 2 ^ 64 }
-    requires shape { frame.old.units ≡ placed settings.now.channels (units_of settings.now.channels frame.old.units) }
-    requires number { length (units_of settings.now.channels frame.old.units) ≡ units_number settings.now.channels }
+    requires shape { frame.old.units ≡ placed settings.now.channels
+        (units_of settings.now.channels frame.old.units) }
+    requires number { length (units_of settings.now.channels frame.old.units)
+        ≡ units_number settings.now.channels }
     requires fields { AllByRecursion HasFields (units_of settings.now.channels frame.old.units) }
     requires bare { AllByRecursion IsBare (units_of settings.now.channels frame.old.units) }
-    requires within { at + lengths (units_of settings.now.channels frame.old.units) ≤ 8 * length bytes.now }
-    ensures value { main_units_at settings.now (first + at) (units_of settings.now.channels frame.old.units) (drop at (bits_of bytes.now)) ≡ gives (λ _. units_of settings.now.channels frame.new.units) result }
-    ensures shape { OnOk result (frame.new.units ≡ placed settings.now.channels (units_of settings.now.channels frame.new.units)) }
-    ensures next { IfOk result (λ next. next ≡ at + lengths (units_of settings.now.channels frame.old.units)) }
+    requires within { at + lengths (units_of settings.now.channels frame.old.units) ≤ 8 * length
+        bytes.now }
+    ensures value { main_units_at settings.now (first + at)
+        (units_of settings.now.channels frame.old.units) (drop at (bits_of bytes.now)) ≡ gives
+        (λ _. units_of settings.now.channels frame.new.units) result }
+    ensures shape { OnOk result (frame.new.units ≡ placed settings.now.channels
+        (units_of settings.now.channels frame.new.units)) }
+    ensures next { IfOk result (λ next. next ≡ at + lengths
+        (units_of settings.now.channels frame.old.units)) }
     ensures begin { frame.new.begin ≡ frame.old.begin }
 {
     match settings.channels {

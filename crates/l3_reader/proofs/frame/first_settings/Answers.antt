@@ -9,7 +9,9 @@ returns-in_err-settings c =
     first_none (bits_of c.args.header.now) c.in_err-settings.ensures.value ∙ sym is
 
 pub returns-then-padded : goal.returns-then-padded
-returns-then-padded c = first_padded (bits_of c.args.header.now) c.in_ok-settings.settings c.in_ok-settings.padded c.if-padded.true c.in_ok-settings.ensures.value
+returns-then-padded c = first_padded (bits_of c.args.header.now) c.in_ok-settings.settings
+    c.in_ok-settings.padded c.if-padded.true c.in_ok-settings.ensures.value
 
 pub returns-else-padded : goal.returns-else-padded
-returns-else-padded c = first_found (bits_of c.args.header.now) c.in_ok-settings.settings c.in_ok-settings.padded c.if-padded.false c.in_ok-settings.ensures.value
+returns-else-padded c = first_found (bits_of c.args.header.now) c.in_ok-settings.settings
+    c.in_ok-settings.padded c.if-padded.false c.in_ok-settings.ensures.value

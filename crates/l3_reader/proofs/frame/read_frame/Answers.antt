@@ -10,10 +10,10 @@ use Rattle.l3_stream.specs.declared.unit.ChosenFrame.{ChosenFrame}
 use Rattle.l3_stream.specs.Frames.{units_of, placed, IsCoded}
 use Rattle.l3_stream.specs.Deviation.{Place, main_at, slot_at, next_place}
 use Rattle.l3_reader.specs.InTurn.{frame_at}
-use Rattle.l3_reader.specs.Steps.{place_of, slot_of}
+use Rattle.l3_reader.specs.Steps.{tape_place, slot_behind}
 use Rattle.l3_reader.proofs.UnitSteps.{gives_err}
 use Rattle.l3_reader.proofs.FrameSteps.{frame_bad_side, frame_bad_main, frame_read, frame_coded, slot_part, side_part, appended_place, appended_kept, appended_slot, kept_place, passed_place, passed_kept, end_within, frame_made}
-use Rattle.l3_reader.specs.Steps.{IsKept, IsWithin}
+use Rattle.l3_reader.specs.Steps.{KeepsTape, IsWithin}
 use Rattle.l3_reader.proofs.Own.{own_main, own_fault}
 use Rattle.l3_reader.proofs.WholeSteps.{refused, at_refused}
 use Rattle.l3_reader.proofs.frame.read_frame.Goals as goal
@@ -25,30 +25,39 @@ both_of g q = Ok (g, q)
 pub returns-in_default-clause-value : goal.returns-in_default-clause-value
 returns-in_default-clause-value c =
     let st = c.args.settings.now in
-    let p = place_of c.args.tape.now in
+    let p = tape_place c.args.tape.now in
     let bytes = c.args.bytes.now in
     let slot = c.slot_bytes-slot_bytes.result in
     frame_bad_side st p bytes c.requires.size c.requires.header
-    (side_part st p bytes c.requires.size c.requires.header slot (length bytes - slot) _ c.slot_bytes-slot_bytes.ensures.value refl c.in_default.ensures.value)
+    (side_part st p bytes c.requires.size c.requires.header slot (length bytes - slot) _
+    c.slot_bytes-slot_bytes.ensures.value refl c.in_default.ensures.value)
 
-said_so : (c : After-from_residual) → frame_at c.args.settings.now (place_of c.args.tape.now) c.args.bytes.now ≡ Err c.in_err-end.field-0.0
+said_so : (c : After-from_residual) → frame_at c.args.settings.now (tape_place c.args.tape.now)
+    c.args.bytes.now ≡ Err c.in_err-end.field-0.0
 said_so c =
     let st = c.args.settings.now in
     let old = c.args.tape.now in
     let t = c.append.new.self in
-    let p = place_of old in
+    let p = tape_place old in
     let bytes = c.args.bytes.now in
     let slot = c.slot_bytes-slot_bytes.result in
     let head = length bytes - slot in
     let side : ℕ × List Unit = (c.in-Some.side.begin, units_of st.channels c.in-Some.side.units) in
-    let read = side_part st p bytes c.requires.size c.requires.header slot head (Some side) c.slot_bytes-slot_bytes.ensures.value refl c.in-Some.ensures.value in
+    let read = side_part st p bytes c.requires.size c.requires.header slot head
+    (Some side) c.slot_bytes-slot_bytes.ensures.value refl c.in-Some.ensures.value in
     let part = take (length bytes - head) (drop head bytes) in
-    let wide : length part ≡ slot = length-take-le (length bytes - head) (drop head bytes) (omega (arith, length-drop head bytes)) ∙ omega (arith, c.slot_bytes-slot_bytes.ensures.range, c.requires.size) in
+    let wide : length part ≡ slot = length-take-le (length bytes - head) (drop head bytes)
+    (omega (arith, length-drop head bytes))
+    ∙ omega (arith, c.slot_bytes-slot_bytes.ensures.range, c.requires.size) in
     let slot_is = appended_slot old t slot part c.append.ensures.same wide c.append.ensures.slot in
-    let own = slot_part st p bytes c.requires.size c.requires.header slot head c.slot_bytes-slot_bytes.ensures.value refl in
+    let own = slot_part st p bytes c.requires.size c.requires.header slot head
+    c.slot_bytes-slot_bytes.ensures.value refl in
     let main : main_at st p side (slot_at st p.number bytes) ≡ Err c.in_err-end.field-0.0 =
-    ap (λ q. main_at st q side (slot_at st p.number bytes)) (sym (appended_place old t c.append.ensures.same c.append.ensures.front)) ∙ (ap (main_at st (place_of t) side) (own ∙ sym slot_is) ∙ c.in_err-end.ensures.value) in
-    frame_bad_main st p bytes c.requires.size c.requires.header side c.in_err-end.field-0.0 read main
+    ap (λ q. main_at st q side (slot_at st p.number bytes))
+    (sym (appended_place old t c.append.ensures.same c.append.ensures.front))
+    ∙ (ap (main_at st (tape_place t) side) (own ∙ sym slot_is) ∙ c.in_err-end.ensures.value) in
+    frame_bad_main st p bytes c.requires.size c.requires.header side c.in_err-end.field-0.0 read
+    main
 
 pub returns-in_err-end-clause-value : goal.returns-in_err-end-clause-value
 returns-in_err-end-clause-value c =
@@ -62,19 +71,26 @@ returns-in_err-end-clause-own c =
     let t = c.append.new.self in
     let f = c.in-Some.side in
     refused c.from_residual.result c.in_err-end.field-0.0 IsWithin is
-    (own_fault _ c.in_err-end.field-0.0 (own_main st (place_of t) (f.begin, units_of st.channels f.units) (slot_of t c.slot_bytes-slot_bytes.result)) c.in_err-end.ensures.value)
+    (own_fault _ c.in_err-end.field-0.0 (own_main st (tape_place t) (
+      f.begin,
+      units_of st.channels f.units,
+    ) (slot_behind t c.slot_bytes-slot_bytes.result))
+    c.in_err-end.ensures.value)
 
 pub returns-in_err-end-clause-still : goal.returns-in_err-end-clause-still
 returns-in_err-end-clause-still c =
     let old = c.args.tape.now in
     let t = c.append.new.self in
-    at_refused c.from_residual.result ((st : Settings) → IsKept st old → IsKept st t) (λ st kept. appended_kept st old t kept c.append.ensures.same c.append.ensures.bytes)
+    at_refused c.from_residual.result ((st : Settings) → KeepsTape st old → KeepsTape st t)
+    (λ st kept. appended_kept st old t kept c.append.ensures.same c.append.ensures.bytes)
 
 pub returns-in_default-clause-still : goal.returns-in_default-clause-still
 returns-in_default-clause-still c = λ st kept. kept
 
 pub returns-in_err-end-clause-same : goal.returns-in_err-end-clause-same
-returns-in_err-end-clause-same c = at_refused c.from_residual.result (place_of c.append.new.self ≡ place_of c.args.tape.now) (appended_place c.args.tape.now c.append.new.self c.append.ensures.same c.append.ensures.front)
+returns-in_err-end-clause-same c = at_refused c.from_residual.result (tape_place c.append.new.self
+    ≡ tape_place c.args.tape.now) (appended_place c.args.tape.now c.append.new.self
+    c.append.ensures.same c.append.ensures.front)
 
 pub pass-requires-clause-within : goal.pass-requires-clause-within
 pass-requires-clause-within c =
@@ -83,38 +99,54 @@ pass-requires-clause-within c =
     let t = c.append.new.self in
     let slot = c.slot_bytes-slot_bytes.result in
     let number : old.number ≡ t.number = ap (λ v. v.number) (sym c.append.ensures.same) in
-    end_within st t c.in-Some.side.begin _ slot c.in_ok-end.end (appended_kept st old t c.requires.kept c.append.ensures.same c.append.ensures.bytes) (c.slot_bytes-slot_bytes.ensures.value ∙ ap (slot_bytes_of st) number) c.in_ok-end.ensures.end
+    end_within st t c.in-Some.side.begin _ slot c.in_ok-end.end
+    (appended_kept st old t c.requires.kept c.append.ensures.same c.append.ensures.bytes)
+    (c.slot_bytes-slot_bytes.ensures.value ∙ ap (slot_bytes_of st) number)
+    c.in_ok-end.ensures.end
 
 pub returns-clause-value : goal.returns-clause-value
 returns-clause-value c =
     let st = c.args.settings.now in
     let old = c.args.tape.now in
     let t = c.append.new.self in
-    let p = place_of old in
+    let p = tape_place old in
     let bytes = c.args.bytes.now in
     let slot = c.slot_bytes-slot_bytes.result in
     let head = length bytes - slot in
     let f = c.read_main.new.frame in
     let us = units_of st.channels f.units in
     let side : ℕ × List Unit = (c.in-Some.side.begin, units_of st.channels c.in-Some.side.units) in
-    let read = side_part st p bytes c.requires.size c.requires.header slot head (Some side) c.slot_bytes-slot_bytes.ensures.value refl c.in-Some.ensures.value in
+    let read = side_part st p bytes c.requires.size c.requires.header slot head
+    (Some side) c.slot_bytes-slot_bytes.ensures.value refl c.in-Some.ensures.value in
     let part = take (length bytes - head) (drop head bytes) in
-    let wide : length part ≡ slot = length-take-le (length bytes - head) (drop head bytes) (omega (arith, length-drop head bytes)) ∙ omega (arith, c.slot_bytes-slot_bytes.ensures.range, c.requires.size) in
+    let wide : length part ≡ slot = length-take-le (length bytes - head) (drop head bytes)
+    (omega (arith, length-drop head bytes))
+    ∙ omega (arith, c.slot_bytes-slot_bytes.ensures.range, c.requires.size) in
     let slot_is = appended_slot old t slot part c.append.ensures.same wide c.append.ensures.slot in
-    let own = slot_part st p bytes c.requires.size c.requires.header slot head c.slot_bytes-slot_bytes.ensures.value refl in
+    let own = slot_part st p bytes c.requires.size c.requires.header slot head
+    c.slot_bytes-slot_bytes.ensures.value refl in
     let here = appended_place old t c.append.ensures.same c.append.ensures.front in
     let number : old.number ≡ t.number = ap (λ v. v.number) (sym c.append.ensures.same) in
     let main : main_at st p side (slot_at st p.number bytes) ≡ Ok us =
-    ap (λ q. main_at st q side (slot_at st p.number bytes)) (sym here) ∙ (ap (main_at st (place_of t) side) (own ∙ sym slot_is) ∙ c.in_ok-end.ensures.value) in
-    let made : record { begin = side.0; units = placed st.channels us } ≡ f = frame_made f side.0 (placed st.channels us) c.in_ok-end.ensures.begin c.in_ok-end.ensures.shape in
-    let kept = appended_kept st old t c.requires.kept c.append.ensures.same c.append.ensures.bytes in
-    let next : place_of c.pass.new.self ≡ next_place st (place_of t) side (slot_of t slot) =
-    passed_place st t c.pass.new.self kept side slot (length bytes) c.in_ok-end.end (omega (arith, c.slot_bytes-slot_bytes.ensures.range)) (c.slot_bytes-slot_bytes.ensures.value ∙ ap (slot_bytes_of st) number)
-    (c.requires.size ∙ ap (λ n. frame_bytes_of st n) number) c.in_ok-end.ensures.end c.pass.ensures.number c.pass.ensures.at c.pass.ensures.end c.pass.ensures.base c.pass.ensures.filled c.pass.ensures.kept in
-    let place : next_place st p side (slot_at st p.number bytes) ≡ place_of c.pass.new.self =
-    ap (λ q. next_place st q side (slot_at st p.number bytes)) (sym here) ∙ (ap (next_place st (place_of t) side) (own ∙ sym slot_is) ∙ sym next) in
+    ap (λ q. main_at st q side (slot_at st p.number bytes)) (sym here)
+    ∙ (ap (main_at st (tape_place t) side) (own ∙ sym slot_is) ∙ c.in_ok-end.ensures.value) in
+    let made : record { begin = side.0; units = placed st.channels us } ≡ f = frame_made f side.0
+    (placed st.channels us) c.in_ok-end.ensures.begin c.in_ok-end.ensures.shape in
+    let kept = appended_kept st old t c.requires.kept c.append.ensures.same c.append.ensures.bytes
+    in
+    let next : tape_place c.pass.new.self ≡ next_place st (tape_place t) side (slot_behind t slot) =
+    passed_place st t c.pass.new.self kept side slot (length bytes) c.in_ok-end.end
+    (omega (arith, c.slot_bytes-slot_bytes.ensures.range))
+    (c.slot_bytes-slot_bytes.ensures.value ∙ ap (slot_bytes_of st) number)
+    (c.requires.size ∙ ap (λ n. frame_bytes_of st n) number) c.in_ok-end.ensures.end
+    c.pass.ensures.number c.pass.ensures.at c.pass.ensures.end c.pass.ensures.base
+    c.pass.ensures.filled c.pass.ensures.kept in
+    let place : next_place st p side (slot_at st p.number bytes) ≡ tape_place c.pass.new.self =
+    ap (λ q. next_place st q side (slot_at st p.number bytes)) (sym here)
+    ∙ (ap (next_place st (tape_place t) side) (own ∙ sym slot_is) ∙ sym next) in
     frame_read st p bytes c.requires.size c.requires.header side us read main
-    ∙ (ap (λ g. both_of g (next_place st p side (slot_at st p.number bytes))) made ∙ ap (λ q. both_of f q) place)
+    ∙ (ap (λ g. both_of g (next_place st p side (slot_at st p.number bytes))) made
+    ∙ ap (λ q. both_of f q) place)
 
 pub returns-clause-kept : goal.returns-clause-kept
 returns-clause-kept c =
@@ -124,10 +156,15 @@ returns-clause-kept c =
     let slot = c.slot_bytes-slot_bytes.result in
     let side : ℕ × List Unit = (c.in-Some.side.begin, units_of st.channels c.in-Some.side.units) in
     let number : old.number ≡ t.number = ap (λ v. v.number) (sym c.append.ensures.same) in
-    let kept = appended_kept st old t c.requires.kept c.append.ensures.same c.append.ensures.bytes in
+    let kept = appended_kept st old t c.requires.kept c.append.ensures.same c.append.ensures.bytes
+    in
     let small = c.in-Some.ensures.found.small in
-    passed_kept st t c.pass.new.self kept side slot (length c.args.bytes.now) c.in_ok-end.end (omega (arith, c.slot_bytes-slot_bytes.ensures.range)) (c.slot_bytes-slot_bytes.ensures.value ∙ ap (slot_bytes_of st) number)
-    (c.requires.size ∙ ap (λ n. frame_bytes_of st n) number) c.in_ok-end.ensures.end c.pass.ensures.number c.pass.ensures.at c.pass.ensures.end c.pass.ensures.base c.pass.ensures.filled c.pass.ensures.kept
+    passed_kept st t c.pass.new.self kept side slot (length c.args.bytes.now) c.in_ok-end.end
+    (omega (arith, c.slot_bytes-slot_bytes.ensures.range))
+    (c.slot_bytes-slot_bytes.ensures.value ∙ ap (slot_bytes_of st) number)
+    (c.requires.size ∙ ap (λ n. frame_bytes_of st n) number) c.in_ok-end.ensures.end
+    c.pass.ensures.number c.pass.ensures.at c.pass.ensures.end c.pass.ensures.base
+    c.pass.ensures.filled c.pass.ensures.kept
     (omega arith) (omega arith) c.requires.longest c.pass.ensures.bytes
 
 pub returns-clause-coded : goal.returns-clause-coded
@@ -135,21 +172,29 @@ returns-clause-coded c =
     let st = c.args.settings.now in
     let old = c.args.tape.now in
     let t = c.append.new.self in
-    let p = place_of old in
+    let p = tape_place old in
     let bytes = c.args.bytes.now in
     let slot = c.slot_bytes-slot_bytes.result in
     let head = length bytes - slot in
     let f = c.read_main.new.frame in
     let us = units_of st.channels f.units in
     let side : ℕ × List Unit = (c.in-Some.side.begin, units_of st.channels c.in-Some.side.units) in
-    let read = side_part st p bytes c.requires.size c.requires.header slot head (Some side) c.slot_bytes-slot_bytes.ensures.value refl c.in-Some.ensures.value in
+    let read = side_part st p bytes c.requires.size c.requires.header slot head
+    (Some side) c.slot_bytes-slot_bytes.ensures.value refl c.in-Some.ensures.value in
     let part = take (length bytes - head) (drop head bytes) in
-    let wide : length part ≡ slot = length-take-le (length bytes - head) (drop head bytes) (omega (arith, length-drop head bytes)) ∙ omega (arith, c.slot_bytes-slot_bytes.ensures.range, c.requires.size) in
+    let wide : length part ≡ slot = length-take-le (length bytes - head) (drop head bytes)
+    (omega (arith, length-drop head bytes))
+    ∙ omega (arith, c.slot_bytes-slot_bytes.ensures.range, c.requires.size) in
     let slot_is = appended_slot old t slot part c.append.ensures.same wide c.append.ensures.slot in
-    let own = slot_part st p bytes c.requires.size c.requires.header slot head c.slot_bytes-slot_bytes.ensures.value refl in
+    let own = slot_part st p bytes c.requires.size c.requires.header slot head
+    c.slot_bytes-slot_bytes.ensures.value refl in
     let here = appended_place old t c.append.ensures.same c.append.ensures.front in
     let main : main_at st p side (slot_at st p.number bytes) ≡ Ok us =
-    ap (λ q. main_at st q side (slot_at st p.number bytes)) (sym here) ∙ (ap (main_at st (place_of t) side) (own ∙ sym slot_is) ∙ c.in_ok-end.ensures.value) in
-    let made : record { begin = side.0; units = placed st.channels us } ≡ f = frame_made f side.0 (placed st.channels us) c.in_ok-end.ensures.begin c.in_ok-end.ensures.shape in
-    let small : All (λ byte. byte < 2 ^ 8) bytes = All-from_get_or (λ byte. byte < 2 ^ 8) bytes 0 (λ i lt. omega (arith, c.type_inv.bytes i)) in
-    subst (IsCoded st) made (frame_coded st p bytes c.requires.size c.requires.header side us (kept_place st old c.requires.kept) small read main)
+    ap (λ q. main_at st q side (slot_at st p.number bytes)) (sym here)
+    ∙ (ap (main_at st (tape_place t) side) (own ∙ sym slot_is) ∙ c.in_ok-end.ensures.value) in
+    let made : record { begin = side.0; units = placed st.channels us } ≡ f = frame_made f side.0
+    (placed st.channels us) c.in_ok-end.ensures.begin c.in_ok-end.ensures.shape in
+    let small : All (λ byte. byte < 2 ^ 8) bytes = All-from_get_or (λ byte. byte < 2 ^ 8) bytes 0
+    (λ i lt. omega (arith, c.type_inv.bytes i)) in
+    subst (IsCoded st) made (frame_coded st p bytes c.requires.size c.requires.header side us
+    (kept_place st old c.requires.kept) small read main)

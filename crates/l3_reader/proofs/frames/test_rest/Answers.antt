@@ -11,7 +11,11 @@ returns c =
     let t = c.args.tape.now in
     let front = take t.filled t.bytes in
     let from = t.end - 8 * t.base in
-    let size : length front ≡ t.filled = length-take-le t.filled t.bytes (omega (arith, c.requires.rest.room, c.requires.rest.few)) in
+    let size : length front ≡ t.filled = length-take-le t.filled t.bytes
+    (omega (arith, c.requires.rest.room, c.requires.rest.few)) in
     let place : 8 * t.base + from ≡ t.end = omega (arith, c.requires.rest.begun) in
-    let whole : between front from (8 * t.filled) ≡ drop from (bits_of front) = take_all (8 * t.filled - from) (drop from (bits_of front)) (omega (arith, length-drop from (bits_of front), length-bits_of front)) in
-    c.test_zeros.ensures ∙ (ap (λ n. clear n (between front from (8 * t.filled))) place ∙ ap (clear t.end) whole)
+    let whole : between front from (8 * t.filled) ≡ drop from (bits_of front) = take_all
+    (8 * t.filled - from) (drop from (bits_of front))
+    (omega (arith, length-drop from (bits_of front), length-bits_of front)) in
+    c.test_zeros.ensures ∙ (ap (λ n. clear n (between front from (8 * t.filled))) place
+    ∙ ap (clear t.end) whole)

@@ -6,7 +6,8 @@ use Rattle.l3_reader.proofs.main_data.test_zeros.Given as goal
 abbrev pub invariant-loop-place : goal.invariant-loop-place
 invariant-loop-place l = record {
   order : l.place ≤ l.end;
-  read : clear (l.first + l.fn.at) (between l.bytes l.fn.at l.end) ≡ clear (l.first + l.place) (between l.bytes l.place l.end);
+  read : clear (l.first + l.fn.at) (between l.bytes l.fn.at l.end) ≡ clear (l.first + l.place)
+      (between l.bytes l.place l.end);
 }
 
 abbrev pub decreases-loop-place : goal.decreases-loop-place

@@ -10,7 +10,8 @@ invariant-loop-place l = record {
   order : l.place ≤ l.end;
   size : length l.lines ≡ length l.fn.lines;
   few : 4 * l.count ≤ length l.fn.lines;
-  read : with_quads (take (4 * l.count) l.lines) (quads_at l.table (l.first + l.end) (length l.fn.lines / 4 - l.count) (between l.bytes l.place l.end))
+  read : with_quads (take (4 * l.count) l.lines) (quads_at l.table (l.first + l.end)
+      (length l.fn.lines / 4 - l.count) (between l.bytes l.place l.end))
       ≡ quads_at l.table (l.first + l.end) (length l.fn.lines / 4) (between l.bytes l.fn.at l.end);
   past : drop (4 * l.count) l.lines ≡ zero_lines (length l.fn.lines - 4 * l.count);
 }

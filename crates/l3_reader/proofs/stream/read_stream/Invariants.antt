@@ -14,7 +14,8 @@ invariant-loop-frames g l = record {
   none : l.reader.settings ≡ None → l.frames.items ≡ [];
   empty : l.frames.items ≡ [] → l.reader.settings ≡ None;
   steady : g.S.Source.faults l.source ≡ g.S.Source.faults l.fn.source;
-  given : IfSome (g.S.Source.left l.fn.source) (λ bytes. HasGiven l.limit bytes l.frames.items l.reader (g.S.Source.left l.source));
+  given : IfSome (g.S.Source.left l.fn.source) (λ bytes. HasGiven l.limit bytes l.frames.items
+      l.reader (g.S.Source.left l.source));
 }
 
 abbrev pub decreases-loop-frames : goal.decreases-loop-frames

@@ -1,8 +1,0 @@
-use Rattle.std.proofs.Common.{◌∙◌, ap}
-use Rattle.l3_tables.specs.Bands.{edge_at}
-use Rattle.l3_stream.specs.Units.{edge}
-use Rattle.l3_reader.proofs.quantised.first_line.Goals as goal
-
-pub returns : goal.returns
-unfolding edge
-returns c = c.from.ensures ∙ (c.edge.ensures.value ∙ ap (λ rate. edge_at rate c.args.band) c.index.ensures)
