@@ -1,5 +1,5 @@
 -- The loop over granules: what is counted.
-use Rattle.std.proofs.Common.{◌≡◌, ◌∙◌, sym, ap, ℕ, zero, suc, ◌+◌, ◌*◌, ◌%◌, ◌<◌, ◌≤◌, List, length, arith, add-one, length-append, inl, inr, refl}
+use Rattle.std.proofs.Common.{◌≡◌, ◌∙◌, sym, ap, ℕ, zero, suc, ◌+◌, ◌-◌, ◌*◌, ◌%◌, ◌<◌, ◌≤◌, List, length, arith, add-one, length-append, inl, inr, refl}
 use Rattle.std.specs.Prelude.{ℤ, nat_eq}
 use Rattle.std.proofs.lemmas.Bool.{cases_Bool}
 use Rattle.l3_base.specs.declared.settings.Settings.{Settings}
@@ -124,3 +124,50 @@ counted-finished st left right c frames tried made before now k turn done =
 pub tried-gathered : (st : Settings) (left right : List ℤ) (c b : CommitterView) (more : ℕ) → b ≡ gathered c
     → more ≡ tried_at st (spectra_of left right) b.track.frame (length b.track.granules) → more ≡ tried_at st (spectra_of left right) c.track.frame (length c.track.granules)
 tried-gathered st left right c b more is e = e ∙ ap (λ (v : CommitterView). tried_at st (spectra_of left right) v.track.frame (length v.track.granules)) is
+
+-- ---- no more is counted than all frames try
+
+before-more : (st : Settings) (spectra : Spectra) (n k : ℕ) → tried_before st spectra n ≤ tried_before st spectra (n + k)
+before-more st spectra n zero =
+    let same : n + 0 ≡ n = omega arith in
+    rw same (omega arith)
+before-more st spectra n (suc k) =
+    let same : n + suc k ≡ (n + k) + 1 = omega arith in
+    let so_far = before-more st spectra n k in
+    let whole = tried-whole st spectra (n + k) in
+    rw same (omega (arith, so_far, whole))
+
+before-within : (st : Settings) (spectra : Spectra) (n total : ℕ) → n ≤ total → tried_before st spectra n ≤ tried_before st spectra total
+before-within st spectra n total within =
+    let same : n + (total - n) ≡ total = omega arith in
+    rw same at (before-more st spectra n (total - n))
+
+so_far-within : (st : Settings) (spectra : Spectra) (n few total : ℕ) → few < 2 → 2 * n + few ≤ 2 * total → tried_so_far st spectra n few ≤ tried_before st spectra total
+so_far-within st spectra n zero total turn within = before-within st spectra n total (omega arith)
+so_far-within st spectra n (suc zero) total turn within =
+    let next = before-within st spectra (n + 1) total (omega arith) in
+    let whole = tried-whole st spectra n in
+    omega (arith, next, whole)
+so_far-within st spectra n (suc (suc few)) total turn within = absurd (omega arith)
+
+-- what was counted so far is within what all frames try
+pub counted-within : (st : Settings) (left right : List ℤ) (c : CommitterView) (frames tried made before now : ℕ)
+    → Counted st left right c frames tried made before now → length c.track.granules < 2 → next_of c.track ≤ 2 * frames_for (length left)
+    → (before ≤ now) × (now ≤ before + gains_tried st left right)
+unfolding gains_tried
+counted-within st left right c frames tried made before now k turn within =
+    let few = so_far-within st (spectra_of left right) c.track.frame (length c.track.granules) (frames_for (length left)) turn within in
+    (omega (arith, k.ticks), omega (arith, k.ticks, k.fresh, k.gains, few))
+
+-- so it is at a frame that the writer refuses
+pub pushed-within : (st : Settings) (left right : List ℤ) (c d : CommitterView) (frames tried made before now more ticks number : ℕ)
+    → Counted st left right c frames tried made before now → length c.track.granules < 2 → d ≡ granule_committed (gathered c) → number ≡ next_of c.track → number % 2 ≡ 1
+    → more ≡ tried_at st (spectra_of left right) c.track.frame (length c.track.granules) → more ≤ 512 → ticks ≡ now + more → number < 2 * frames_for (length left)
+    → (before ≤ ticks) × (ticks ≤ before + gains_tried st left right)
+pushed-within st left right c d frames tried made before now more ticks number k turn is_d at odd same few ticked below =
+    let e : CommitterView = frame_committed d in
+    let after = counted-push st left right c d e frames tried made before now more ticks number k turn is_d refl at odd same few ticked in
+    let one : length c.track.granules ≡ 1 = few-odd c.track.frame (length c.track.granules) number at turn odd in
+    let frame_e : e.track.frame ≡ c.track.frame + 1 = ap (λ (v : CommitterView). v.track.frame + 1) is_d in
+    let none : length e.track.granules ≡ 0 = refl in
+    counted-within st left right e (frames + 1) (tried + more) (made + more) before ticks after (omega (arith, none)) (omega (arith, frame_e, none, at, one, below))

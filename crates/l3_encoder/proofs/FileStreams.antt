@@ -20,7 +20,7 @@ use Rattle.l3_stream.proofs.StreamReading.{reading_again}
 use Rattle.l3_commit.specs.Encoding.{frames_for, frames_chosen, encoding_of}
 use Rattle.l3_commit.specs.Laws.{AreSamples}
 use Rattle.l3_commit.proofs.Encodings.{chosen-fit, chosen-alone}
-use Rattle.l3_encoder.specs.Encoded.{settings_at, left_in, right_in, encoding_by}
+use Rattle.l3_encoder.specs.Encoded.{settings_with, left_in, right_in, encoding_by}
 use Rattle.l3_encoder.specs.FileLaws.{read_limit, BeginsAreWithin, IsStreamOf, FilesAreEncoded}
 use Rattle.l3_encoder.proofs.Counting.{frames-small}
 
@@ -83,7 +83,7 @@ record IsEncodedBy (rate : Rate) (said : Result WavHead WavFault) (bytes stream 
   head : WavHead
   accepted : said ≡ Ok head
   encoded :
-      encoding_of (settings_at rate head) (left_in head bytes) (right_in head bytes) ≡ stream
+      encoding_of (settings_with rate head) (left_in head bytes) (right_in head bytes) ≡ stream
 
 encoded-by : (rate : Rate) (said : Result WavHead WavFault) (bytes stream : List ℕ) →
     encoding_by rate said bytes ≡ Some stream → IsEncodedBy rate said bytes stream
@@ -91,14 +91,14 @@ encoded-by rate (Ok head) bytes stream is = record {
   head = head;
   accepted = refl;
   encoded = same_Some
-      (encoding_of (settings_at rate head) (left_in head bytes) (right_in head bytes)) stream is;
+      (encoding_of (settings_with rate head) (left_in head bytes) (right_in head bytes)) stream is;
 }
 encoded-by rate (Err why) bytes stream is = absurd cc
 
 pub files-encoded : FilesAreEncoded
 files-encoded rate bytes stream all is =
     let by = encoded-by rate (wav_of bytes) bytes stream is in
-    let st = settings_at rate by.head in
+    let st = settings_with rate by.head in
     let left = left_in by.head bytes in
     let right = right_in by.head bytes in
     let samples = file_channels bytes by.head all by.accepted in

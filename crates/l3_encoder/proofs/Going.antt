@@ -1,5 +1,5 @@
 -- The loop over granules: what is committed, what is owed.
-use Rattle.std.proofs.Common.{◌≡◌, ◌∙◌, sym, ap, subst, refl, ℕ, zero, suc, ◌+◌, ◌-◌, ◌*◌, ◌%◌, ◌<◌, ◌≤◌, List, [], ◌∷◌, ◌++◌, length, arith, add-one, append_assoc, length-append}
+use Rattle.std.proofs.Common.{◌≡◌, ◌∙◌, sym, ap, subst, refl, ℕ, zero, suc, ◌+◌, ◌-◌, ◌*◌, ◌%◌, ◌<◌, List, [], ◌∷◌, ◌++◌, length, arith, add-one, append_assoc, length-append}
 use Rattle.std.proofs.lemmas.List.{append-nil}
 use Rattle.std.specs.Prelude.{ℤ, Bool, true, false, Result}
 use Rattle.l3_base.specs.declared.settings.Settings.{Settings}
@@ -38,7 +38,7 @@ pub record Going (st : Settings) (left right : List ℤ) (c : CommitterView) (w 
   pub waits : c.is_ready ≡ false
   pub writing : IsBefore st (spectra_of left right) c.track.frame w
   pub bytes : Owes old new (owed w (rest_of st left right c.track.frame)) (encoding_of st left right)
-  pub later : before ≤ now
+  pub steady : now ≡ before
 
 -- ---- before the first granule
 
@@ -76,7 +76,7 @@ going-first st left right c w old before stands start waits fresh owes =
       waits = waits;
       writing = subst (λ (n : ℕ). IsBefore st (spectra_of left right) n w) (sym frame) (before-first st (spectra_of left right) w fresh);
       bytes = owes-first st left right (owed w) old c.track.frame frame owes;
-      later = omega arith;
+      steady = refl;
     }
 
 -- ---- the first granule of a frame
@@ -110,7 +110,7 @@ going-on st left right c d w old new before now number g is still at even =
       waits = ap (λ (v : CommitterView). v.is_ready) is;
       writing = subst (λ (n : ℕ). IsBefore st (spectra_of left right) n w) frame g.writing;
       bytes = subst (λ (n : ℕ). Owes old new (owed w (rest_of st left right n)) (encoding_of st left right)) frame g.bytes;
-      later = g.later;
+      steady = g.steady;
     }
 
 -- ---- the second granule of a frame
@@ -183,6 +183,11 @@ module _ (st : Settings) (left right : List ℤ) (n : ℕ) (w : Writing) (f : Ch
       append_assoc bytes.0 gives.0 front.0 ∙ (ap (λ x. bytes.0 ++ x) front.1 ∙ (ap (λ x. bytes.0 ++ owes x) (sym split) ∙ bytes.2)) in
       (bytes.0 ++ gives.0, front.0, joined, Takes-then old mid new bytes.0 gives.0 bytes.1 gives.1)
 
+-- a granule that is to come is one of all frames
+pub number-below : (st : Settings) (left right : List ℤ) (c : CommitterView) (number : ℕ) → StandsFor c st left right → number < total_of c → number < 2 * frames_for (length left)
+number-below st left right c number stands below =
+    subst (λ (xs : List ℤ). number < 2 * frames_for (length xs)) stands.left_is below
+
 module _ (st : Settings) (left right : List ℤ) (c d : CommitterView) (w : Writing) (f : ChosenFrame) (old mid new : List ℕ → Type 0) (before now number : ℕ)
     (l : AreSamples left) (r : AreSamples right) (g : Going st left right c w old mid before now) (is_d : d ≡ granule_committed (gathered c))
     (at : number ≡ next_of c.track) (below : number < total_of c) (odd : number % 2 ≡ 1) (chosen : f ≡ frame_chosen st (spectra_of left right) d.track.frame) where
@@ -201,8 +206,8 @@ module _ (st : Settings) (left right : List ℤ) (c d : CommitterView) (w : Writ
   -- it went to the writer
   pub going-push : (e : CommitterView) (v : Writing) (last : ℕ) → StillStands c d → e ≡ frame_committed d → StillStands d e
       → v.settings ≡ w.settings → v.frames ≡ w.frames + 1 → v.end ≡ end_of w.settings w.frames f → v.failed ≡ false
-      → GivesFirst mid new w v f → now ≤ last → Going st left right e v old new before last
-  going-push e v last still_d is_e still_e settings frames end good gives later =
+      → GivesFirst mid new w v f → last ≡ now → Going st left right e v old new before last
+  going-push e v last still_d is_e still_e settings frames end good gives served =
       let frame : suc c.track.frame ≡ e.track.frame = sym (ap (λ (x : CommitterView). x.track.frame) is_e ∙ (ap (λ (x : CommitterView). x.track.frame + 1) is_d ∙ add-one c.track.frame)) in
       let none : length e.track.granules ≡ 0 = ap (λ (x : CommitterView). length x.track.granules) is_e in
       let spectra = spectra-of-samples left right l r in
@@ -213,7 +218,7 @@ module _ (st : Settings) (left right : List ℤ) (c d : CommitterView) (w : Writ
         writing = subst (λ (n : ℕ). IsBefore st (spectra_of left right) n v) frame (before-next st (spectra_of left right) c.track.frame w v f spectra g.writing same settings frames end good);
         bytes = subst (λ (n : ℕ). Owes old new (owed v (rest_of st left right n)) (encoding_of st left right)) frame
             (owes-next st left right c.track.frame w f spectra g.writing same some (owed w) (owed v) (encoding_of st left right) old mid new g.bytes gives);
-        later = omega (arith, g.later, later);
+        steady = served ∙ g.steady;
       }
 
   -- the writer failed

@@ -1,3 +1,4 @@
+pub mod InputLemmas
 pub mod Rest
 pub mod Going
 pub mod Counting

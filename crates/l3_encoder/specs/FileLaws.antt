@@ -12,7 +12,7 @@ use Rattle.l3_stream.specs.Tape.{Spells}
 use Rattle.l3_stream.specs.Deviation.{content_of, reading_of, deviation_of}
 use Rattle.l3_stream.specs.StreamLaws.{AreSame}
 use Rattle.l3_commit.specs.Encoding.{frames_for, frames_chosen}
-use Rattle.l3_encoder.specs.Encoded.{settings_at, values_in, left_in, right_in, encoding_in}
+use Rattle.l3_encoder.specs.Encoded.{settings_with, values_in, left_in, right_in, encoding_in}
 
 -- the most frames that a stream is read with
 abbrev pub read_limit : ℕ
@@ -26,7 +26,7 @@ BeginsAreWithin st fs = (n : ℕ) (f : ChosenFrame) → slice_get fs n ≡ Some 
 -- the chosen frames of a file with this head
 abbrev pub chosen_in : Rate → WavHead → List ℕ → List ChosenFrame
 chosen_in rate head bytes =
-    frames_chosen (settings_at rate head) (left_in head bytes) (right_in head bytes)
+    frames_chosen (settings_with rate head) (left_in head bytes) (right_in head bytes)
 
 -- bytes are the stream of these frames under these settings and of no others
 pub record IsStreamOf (st : Settings) (fs : List ChosenFrame) (stream : List ℕ) : Type 0 where
@@ -46,7 +46,7 @@ pub record IsStreamOfFile (rate : Rate) (bytes stream : List ℕ) : Type 0 where
   pub accepted : wav_of bytes ≡ Ok head
   pub samples : AreChannels16 head.channels (values_in head bytes)
   pub number : length (chosen_in rate head bytes) ≡ frames_for (length (left_in head bytes))
-  pub chosen : IsStreamOf (settings_at rate head) (chosen_in rate head bytes) stream
+  pub chosen : IsStreamOf (settings_with rate head) (chosen_in rate head bytes) stream
 
 -- whatever bytes a file has, and at every rate, what it is encoded to is such a stream
 abbrev pub FilesAreEncoded : Type 0

@@ -1,8 +1,8 @@
-ghost use Rattle.std.specs.Prelude.{◌≡◌, ◌≤◌, IfOk, IfErr, IfSome, length};
+ghost use Rattle.std.specs.Prelude.{◌≡◌, ◌≤◌, IfOk, IfErr, IfSome, OnOk, length};
 ghost use Rattle.l3_commit.specs.Laws.{AreSamples};
 ghost use Rattle.l3_commit.specs.Standing.{IsRightOf};
-ghost use Rattle.l3_io.specs.Causes.{Rose};
-ghost use Rattle.l3_encoder.specs.Encoded.{settings_at};
+ghost use Rattle.l3_encoder.specs.Changes.{source_change};
+ghost use Rattle.l3_encoder.specs.Encoded.{settings_with};
 ghost use Rattle.l3_encoder.specs.Input.{IsInput, RefusesInput};
 
 use l3_base::{Rate, Settings};
@@ -20,7 +20,7 @@ pub struct Input {
 
 // The settings of a file with this head.
 fn settings(rate: Rate, head: &WavHead) -> Settings
-    ensures { result ≡ settings_at rate head.now }
+    ensures { result ≡ settings_with rate head.now }
 {
     Settings {
         rate,
@@ -40,7 +40,8 @@ pub fn read_input<S: Source>(
     ensures range { IfOk result (λ input. AreSamples input.pcm.left.items × AreSamples input.pcm.right.items) }
     ensures few { IfOk result (λ input. length input.pcm.left.items ≤ 2147483647) }
     ensures shape { IfOk result (λ input. IsRightOf input.settings.channels input.pcm.left.items input.pcm.right.items) }
-    ensures refused { IfErr result (λ fault. RefusesInput fault (Rose (S.faults source.old) (S.faults source.new)) (S.left source.old)) }
+    ensures served { OnOk result (S.faults source.new ≡ S.faults source.old) }
+    ensures refused { IfErr result (λ fault. RefusesInput fault (source_change S.left S.faults source.old source.new)) }
     ensures later { S.faults source.old ≤ S.faults source.new }
 {
     let head = match open(source) {

@@ -1,7 +1,7 @@
 //! A WAV file from a source -> its MP3 stream at a sink.
 //!
-//! Before: `l3_wav`, which reads heads and samples; `l3_commit`, which chooses frames; `l3_frames`, which writes them.
-//! After: the program.
+//! Before: `l3_wav`, which reads heads and samples; `l3_commit`, which chooses frames; `l3_frames`,
+//! which writes them. After: the program.
 #![tactic(auto)]
 
 mod alone;

@@ -3,8 +3,9 @@ ghost use Rattle.l3_commit.specs.Encoding.{frames_for, encoding_of, gains_tried}
 ghost use Rattle.l3_commit.specs.Laws.{AreSamples};
 ghost use Rattle.l3_commit.specs.Standing.{IsRightOf, StandsFor};
 ghost use Rattle.l3_commit.specs.Tracks.{first_track};
+ghost use Rattle.l3_encoder.specs.Changes.{sink_change};
 ghost use Rattle.l3_encoder.specs.Input.{GivesEncoding};
-ghost use Rattle.l3_io.specs.Causes.{HasCause, Rose};
+ghost use Rattle.l3_io.specs.Causes.{HasCause};
 ghost use Rattle.l3_io.specs.Taken.{Writes};
 
 use l3_base::{Settings, Steps, WriteFault};
@@ -14,7 +15,8 @@ use l3_io::Sink;
 use l3_wav::Pcm;
 use std::sync::ledger::Ledger;
 
-// Commits granule after granule, and gives each frame to the sink once its second granule is committed.
+// Commits granule after granule, and gives each frame to the sink once its second granule is
+// committed.
 fn write_frames<K: Sink, L: Ledger + Send>(
     settings: Settings,
     mut committer: Committer,
@@ -31,6 +33,7 @@ fn write_frames<K: Sink, L: Ledger + Send>(
     ensures report { IfOk result (λ r. (r.frames ≡ frames_for (length committer.left)) × (r.tried ≡ gains_tried settings committer.left committer.right)
         × (r.made ≡ r.tried) × (steps.new ≡ steps.old + r.made)) }
     ensures cause { HasCause (K.faults sink.old) (K.faults sink.new) result }
+    ensures rise { (steps.old ≤ steps.new) × (steps.new ≤ steps.old + gains_tried settings committer.left committer.right) }
 {
     let mut writer = FrameWriter::new(settings);
     let mut frames = 0u32;
@@ -54,8 +57,8 @@ fn write_frames<K: Sink, L: Ledger + Send>(
     })
 }
 
-/// Gives the encoding of samples of 16 bits to a sink. Of `left` there are at most 2147483647, and of `right` none in mono
-/// and else as many.
+/// Gives the encoding of samples of 16 bits to a sink. Of `left` there are at most 2147483647, and
+/// of `right` none in mono and else as many.
 pub fn encode_pcm<K: Sink, L: Ledger + Send>(
     settings: Settings,
     pcm: Pcm,
@@ -65,10 +68,11 @@ pub fn encode_pcm<K: Sink, L: Ledger + Send>(
     requires few { length pcm.left.items ≤ 2147483647 }
     requires range { AreSamples pcm.left.items × AreSamples pcm.right.items }
     requires shape { IsRightOf settings.channels pcm.left.items pcm.right.items }
-    ensures gives { GivesEncoding settings pcm.left.items pcm.right.items result (Rose (K.faults sink.old) (K.faults sink.new))
-        (sink.new ≡ sink.old) (K.taken sink.old) (K.taken sink.new) }
+    ensures gives { GivesEncoding settings pcm.left.items pcm.right.items result (sink_change K.taken K.faults sink.old sink.new) }
     ensures later { K.faults sink.old ≤ K.faults sink.new }
     ensures ticks { IfOk result (λ report. steps.new ≡ steps.old + report.made) }
+    ensures rise { (steps.old ≤ steps.new)
+        × (steps.new ≤ steps.old + gains_tried settings pcm.left.items pcm.right.items) }
 {
     match write_frames(settings, Committer::open(settings, pcm), sink, steps) {
         Ok(report) => Ok(report),

@@ -2,7 +2,7 @@ ghost use Rattle.std.specs.Prelude.{◌≡◌, ◌<◌};
 
 use crate::{EncodeFault, Report, encode_alone};
 use l3_base::{Rate, Steps};
-use l3_io::{MemSink, MemSource};
+use l3_io::{MemSink, MemSource, read_full};
 use l3_wav::WavFault;
 use std::alloc::{AllocError, Global};
 use std::marker::Brand;
@@ -37,7 +37,8 @@ fn stand(bytes: &[u8], fronts: &[(usize, [u8; 6])]) -> bool {
     true
 }
 
-// What the encoder answers, and a sink of so much room with what it took. This read fails.
+// What the encoder answers, a sink of so much room with what it took, and the source. This read
+// fails.
 fn encoded<L: Ledger + Send>(
     blank: Blank,
     alloc: Global,
@@ -45,7 +46,7 @@ fn encoded<L: Ledger + Send>(
     rate: Rate,
     fails: u64,
     room: usize,
-) -> Result<(Result<Report, EncodeFault>, MemSink), AllocError>
+) -> Result<(Result<Report, EncodeFault>, MemSink, MemSource), AllocError>
     requires name { blank.name ≡ L.name }
     requires parts { blank.parts ≡ L.parts }
     requires some { 0 < blank.parts }
@@ -54,7 +55,7 @@ fn encoded<L: Ledger + Send>(
     let mut sink = MemSink::new(alloc, room, 300, &[])?;
     let mut steps: Steps<L> = Steps::start(blank);
     let answer = encode_alone(alloc, rate, &mut source, &mut sink, &mut steps);
-    Ok((answer, sink))
+    Ok((answer, sink, source))
 }
 
 // An answer of so many frames, each count of a gain made anew.
@@ -69,7 +70,7 @@ fn report(frames: u32, tried: u64) -> Result<Report, EncodeFault> {
 #[test]
 fn no_samples(rt: HostRuntime) -> Result<(), Fail> {
     let bytes = zeros(rt.alloc(), &MONO, 0)?;
-    let (answer, sink) = encoded::<Brand>(
+    let (answer, sink, _) = encoded::<Brand>(
         Blank::new(1),
         rt.alloc(),
         &bytes,
@@ -85,7 +86,7 @@ fn no_samples(rt: HostRuntime) -> Result<(), Fail> {
 #[test]
 fn zeros_over_two_frames(rt: HostRuntime) -> Result<(), Fail> {
     let bytes = zeros(rt.alloc(), &MONO, 2306)?;
-    let (answer, sink) = encoded::<Brand>(
+    let (answer, sink, _) = encoded::<Brand>(
         Blank::new(1),
         rt.alloc(),
         &bytes,
@@ -107,7 +108,7 @@ fn zeros_over_two_frames(rt: HostRuntime) -> Result<(), Fail> {
 #[test]
 fn no_reservoir_at_320_kbit(rt: HostRuntime) -> Result<(), Fail> {
     let bytes = zeros(rt.alloc(), &MONO, 2)?;
-    let (answer, sink) = encoded::<Brand>(
+    let (answer, sink, _) = encoded::<Brand>(
         Blank::new(1),
         rt.alloc(),
         &bytes,
@@ -128,7 +129,7 @@ fn no_reservoir_at_320_kbit(rt: HostRuntime) -> Result<(), Fail> {
 #[test]
 fn reservoir_fills_at_32_kbit(rt: HostRuntime) -> Result<(), Fail> {
     let bytes = zeros(rt.alloc(), &STEREO, 46080)?;
-    let (answer, sink) = encoded::<Brand>(
+    let (answer, sink, _) = encoded::<Brand>(
         Blank::new(1),
         rt.alloc(),
         &bytes,
@@ -154,24 +155,27 @@ fn one_zero_sample_and_faults(rt: HostRuntime) -> Result<(), Fail> {
     let mut stream = [0; 835];
     stream[..4].copy_from_slice(&[0xFF, 0xFB, 0x90, 0xC0]);
     stream[417..423].copy_from_slice(&[0xFF, 0xFB, 0x92, 0xC0, 0xC6, 0x00]);
-    let whole = zeros(rt.alloc(), &MONO, 2)?;
+    let mut whole = zeros(rt.alloc(), &MONO, 2)?;
+    whole.extend_from_slice(b"rest")?;
 
-    // The file cut to this length, the read that fails, room in the sink, the answer, and how many bytes were written.
-    for (there, fails, room, wanted, written) in [
-        (46, 1000, 10000, report(2, 4), 835),
+    // The file cut to this length, the read that fails, room in the sink, the answer, how many bytes
+    // were written and how many are left.
+    for (there, fails, room, wanted, written, left) in [
+        (50, 1000, 10000, report(2, 4), 835, 4),
         (
             11,
             1000,
             10000,
             Err(EncodeFault::Wav(WavFault::HeaderEnds)),
             0,
+            0,
         ),
-        (46, 0, 10000, Err(EncodeFault::Read), 0),
-        (46, 4, 10000, Err(EncodeFault::Read), 0),
-        (46, 1000, 100, Err(EncodeFault::Write), 100),
+        (50, 0, 10000, Err(EncodeFault::Read), 0, 50),
+        (50, 4, 10000, Err(EncodeFault::Read), 0, 6),
+        (50, 1000, 100, Err(EncodeFault::Write), 100, 4),
     ] {
         let bytes = whole.as_slice().get(..there).unwrap_or(&[]);
-        let (answer, sink) = encoded::<Brand>(
+        let (answer, sink, mut source) = encoded::<Brand>(
             Blank::new(1),
             rt.alloc(),
             bytes,
@@ -181,6 +185,8 @@ fn one_zero_sample_and_faults(rt: HostRuntime) -> Result<(), Fail> {
         )?;
         assert_eq!(rt; answer, wanted);
         assert_eq!(rt; Some(sink.bytes()), stream.get(..written));
+        let mut rest = [0; 100];
+        assert_eq!(rt; read_full(&mut source, &mut rest), Ok(left));
     }
     Ok(())
 }

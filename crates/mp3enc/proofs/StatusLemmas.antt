@@ -1,8 +1,8 @@
 -- From what an ending says of input and output, each clause of the program.
-use Rattle.std.proofs.Common.{◌≡◌, ◌⊎◌, ℕ, List, refl, ap, ◌∙◌, sym, inl, inr, arith}
+use Rattle.std.proofs.Common.{◌≡◌, ◌⊎◌, ℕ, ◌≤◌, List, refl, ap, ◌∙◌, sym, inl, inr, arith}
 use Rattle.std.specs.Prelude.{Option, Some, None, IfSome, IsSome, IsSomeAnd, ◌↔◌, Result, Ok, Err, OnErr}
 use Rattle.std.proofs.lemmas.Option.{IfSome_then}
-use Rattle.l3_io.specs.Causes.{Rose, IsSteady}
+use Rattle.l3_io.specs.Causes.{IsSteady, count_after}
 use Rattle.l3_io.specs.Taken.{Takes, TakesPrefix, Stands, Writes}
 use Rattle.l3_io.proofs.TakenLemmas.{TakesPrefix-none, TakesPrefix-whole}
 use Rattle.l3_wav.specs.declared.head.WavHead.{WavHead}
@@ -10,7 +10,9 @@ use Rattle.l3_wav.specs.declared.fault.WavFault.{WavFault}
 use Rattle.l3_wav.specs.declared.fault.WavFault.TheVariants.{NotRiff, HeaderEnds, NoFmtBeforeData, HeaderTooLong, UnsupportedFormat, UnsupportedChannels, UnsupportedRate, UnsupportedDepth, BadBlockAlign, Read}
 use Rattle.l3_wav.specs.Wav.{wav_of}
 use Rattle.l3_base.specs.declared.rate.Rate.{Rate}
-use Rattle.l3_encoder.specs.Encoded.{encoding_in}
+use Rattle.l3_encoder.specs.Changes.{SourceChange, SinkChange}
+use Rattle.l3_encoder.specs.Encoded.{encoding_in, rest_in}
+use Rattle.l3_reader.specs.InTurn.{HasStopped}
 use Rattle.l3_stream.specs.declared.fault.StreamFault.{StreamFault}
 use Rattle.l3_stream.specs.Deviation.{Content, deviation_of, fault_in}
 use Rattle.mp3enc.specs.declared.status.Status.{Status}
@@ -19,9 +21,9 @@ use Rattle.mp3enc.specs.declared.ending.Ending.{Ending}
 use Rattle.mp3enc.specs.declared.ending.Ending.TheVariants.{Done, Usage, Refused, Deviates, ReadFault, WriteFault, Memory}
 use Rattle.mp3enc.specs.declared.words.Command.{Command}
 use Rattle.mp3enc.specs.declared.words.Command.TheVariants.{Encode, Check}
-use Rattle.mp3enc.specs.Check.{reading_in, deviation_in, line_by, line_in}
+use Rattle.mp3enc.specs.Check.{frames_limit, reading_in, deviation_in, line_by, line_in}
 use Rattle.mp3enc.specs.Status.{status_of, refusal_of}
-use Rattle.mp3enc.specs.Program.{Encodes, Explains, MayCome, IsRefused, IsNamed, output_of, rest_of}
+use Rattle.mp3enc.specs.Program.{Does, Encodes, Ends, EndsUntouched, IsRefused, Leaves, MayCome, failed_reads_at, failed_writes_at, output_of}
 
 IfSome-always : {X : Type 0} (o : Option X) (P : X → Type 0) → ((x : X) → P x) → IfSome o P
 IfSome-always None P h = tt
@@ -96,190 +98,250 @@ usage_is ReadFault is = cc
 usage_is WriteFault is = cc
 usage_is Memory is = cc
 
-module _ (left left_now : Option (List ℕ)) (old new : List ℕ → Type 0) (source_rose sink_rose untouched : Type 0) where
-  -- an ending is that of a command
-  abbrev pub Ends : Command → Ending → Type 0
-  Ends command e = Explains command e source_rose sink_rose untouched left left_now old new
+-- a refused head leaves what follows the bytes that refuse it
+pub refusal_leaves : (rate : Rate) (why : WavFault) (left now : Option (List ℕ)) → (why ≡ Read → ⊥) → IfSome left (λ bytes. now ≡ Some (rest_in bytes)) →
+    IfSome left (λ bytes. Leaves (Encode rate) (refusal_of why) bytes now)
+refusal_leaves rate why left now own is = elim (refusal_is why) [ inl b ↦ rw b is | inr (inl u) ↦ rw u is | inr (inr r) ↦ absurd (own r.0) ]
 
-  -- the words were refused, or the ending says what was done for their command
-  abbrev pub Told : Option Command → Ending → Type 0
-  Told asked e = ((asked ≡ None) × (e ≡ Usage) × untouched) ⊎ ((command : Command) × (asked ≡ Some command) × Ends command e)
+-- a stream that deviates leaves what its reading does
+pub deviation_leaves : (why : StreamFault) (left now : Option (List ℕ)) → IfSome left (λ bytes. deviation_in bytes ≡ Some why) → IfSome left (λ bytes. HasStopped frames_limit bytes why now) →
+    IfSome left (λ bytes. Leaves Check status.BadStream bytes now)
+deviation_leaves why None now deviates stopped = tt
+deviation_leaves why (Some bytes) now deviates stopped = rw deviates stopped
 
-  pub told : (asked : Option Command) (e : Ending) → (e ≡ Usage ↔ asked ≡ None) → (e ≡ Usage → untouched) → IfSome asked (λ command. Ends command e) → Told asked e
-  told (Some command) e usage same explains = inr (command, refl, explains)
-  told None e usage same explains = let is = usage.1 refl in inl (refl, is, same is)
+-- a call's count of faults that rose did not stand still
+steady_count : (before now : ℕ) → IsSteady before now → now ≡ count_after before → ⊥
+steady_count before now steady is = absurd (omega (arith, steady, is))
 
-  refusal_may_come : (asked : Option Command) (why : WavFault) → IsSomeAnd asked Encodes → (why ≡ Read → ⊥) → MayCome asked (refusal_of why)
-  refusal_may_come asked why encodes other = elim (refusal_is why) [ inl b ↦ rw b encodes | inr (inl u) ↦ rw u encodes | inr (inr r) ↦ absurd (other r.0) ]
+module _ (source : SourceChange) (sink : SinkChange) where
+  abbrev pub Done_so : Option Command → Ending → Type 0
+  Done_so asked e = Does asked source sink e
+
+  refusal_may_come : (command : Command) (why : WavFault) → Encodes command → (why ≡ Read → ⊥) → MayCome (Some command) (refusal_of why)
+  refusal_may_come command why encodes other = elim (refusal_is why) [ inl b ↦ rw b encodes | inr (inl u) ↦ rw u encodes | inr (inr r) ↦ absurd (other r.0) ]
+
+  ends_may_come : (command : Command) (e : Ending) → Ends command e source sink → MayCome (Some command) (status_of e)
+  ends_may_come command Done d = tt
+  ends_may_come command (Refused why) d = refusal_may_come command why d.explains.0 d.explains.2
+  ends_may_come command (Deviates why) d = ap Some d.explains.0
+  ends_may_come command ReadFault d = tt
+  ends_may_come command WriteFault d = tt
+  ends_may_come command Memory d = d.explains.0
+  ends_may_come command Usage d = absurd d.explains
 
   -- each status comes of its commands alone
-  pub may_come : (asked : Option Command) (e : Ending) → Told asked e → MayCome asked (status_of e)
-  may_come asked Usage (inl u) = u.0
-  may_come asked Done (inl u) = let bad = u.1 in cc
-  may_come asked (Refused why) (inl u) = let bad = u.1 in cc
-  may_come asked (Deviates why) (inl u) = let bad = u.1 in cc
-  may_come asked ReadFault (inl u) = let bad = u.1 in cc
-  may_come asked WriteFault (inl u) = let bad = u.1 in cc
-  may_come asked Memory (inl u) = let bad = u.1 in cc
-  may_come asked Done (inr t) = rw t.1 tt
-  may_come asked (Refused why) (inr t) = refusal_may_come asked why (rw t.1 t.2.0) t.2.2
-  may_come asked (Deviates why) (inr t) = t.1 ∙ ap Some t.2.0
-  may_come asked ReadFault (inr t) = rw t.1 tt
-  may_come asked WriteFault (inr t) = rw t.1 tt
-  may_come asked Memory (inr t) = rw t.1 tt
-  may_come asked Usage (inr t) = absurd t.2
+  pub may_come : (asked : Option Command) (e : Ending) → Done_so asked e → MayCome asked (status_of e)
+  may_come (Some command) e d = ends_may_come command e d
+  may_come None e d = rw d.0 refl
+
+  -- words are refused where they ask for nothing
+  pub usage_none : (asked : Option Command) (e : Ending) → Done_so asked e → e ≡ Usage → asked ≡ None
+  usage_none None e d is = refl
+  usage_none (Some command) e d is =
+      let bad : Ends command Usage source sink = rw is at d in
+      absurd bad.explains
+
+  pub none_usage : (asked : Option Command) (e : Ending) → Done_so asked e → asked ≡ None → e ≡ Usage
+  none_usage None e d is = d.0
+  none_usage (Some command) e d is = cc
+
+  pub usage_unread : (asked : Option Command) (e : Ending) → Done_so asked e → e ≡ Usage → source.unread
+  usage_unread None e d is = d.1
+  usage_unread (Some command) e d is =
+      let bad : Ends command Usage source sink = rw is at d in
+      absurd bad.explains
+
+  refused_by_end : (s : Status) (command : Command) (e : Ending) → Ends command e source sink → Some (status_of e) ≡ Some s → (s ≡ status.BadWav) ⊎ (s ≡ status.Unsupported) → IfSome source.left (IsRefused s)
+  refused_by_end s command (Refused why) d is which = IfSome_then source.left d.explains.1 (λ bytes same. (why, same, some_is (refusal_of why) s is))
+  refused_by_end s command (Deviates why) d is which = elim (is_refusal status.BadStream s is which) [ inl bad ↦ cc | inr bad ↦ cc ]
+  refused_by_end s command Done d is which = elim (is_refusal status.Ok s is which) [ inl bad ↦ cc | inr bad ↦ cc ]
+  refused_by_end s command Usage d is which = absurd d.explains
+  refused_by_end s command ReadFault d is which = elim (is_refusal status.ReadFault s is which) [ inl bad ↦ cc | inr bad ↦ cc ]
+  refused_by_end s command WriteFault d is which = elim (is_refusal status.WriteFault s is which) [ inl bad ↦ cc | inr bad ↦ cc ]
+  refused_by_end s command Memory d is which = elim (is_refusal status.Memory s is which) [ inl bad ↦ cc | inr bad ↦ cc ]
+
+  usage_is_no_refusal : (s : Status) → Some status.Usage ≡ Some s → (s ≡ status.BadWav) ⊎ (s ≡ status.Unsupported) → ⊥
+  usage_is_no_refusal s is which = elim (is_refusal status.Usage s is which) [ inl bad ↦ cc | inr bad ↦ cc ]
+
+  usage_status : (e : Ending) (s : Status) → e ≡ Usage → Some (status_of e) ≡ Some s → Some status.Usage ≡ Some s
+  usage_status e s end is = sym (ap (λ x. Some (status_of x)) end) ∙ is
 
   -- a status that refuses a head comes from an ending that does
-  pub refused_only : (s : Status) (asked : Option Command) (e : Ending) → Told asked e → Some (status_of e) ≡ Some s → (s ≡ status.BadWav) ⊎ (s ≡ status.Unsupported) → IfSome left (IsRefused s)
-  refused_only s asked (Refused why) (inl u) is which = let bad = u.1 in cc
-  refused_only s asked (Refused why) (inr t) is which = IfSome_then left t.2.1 (λ bytes same. (why, same, some_is (refusal_of why) s is))
-  refused_only s asked (Deviates why) t is which = elim (is_refusal status.BadStream s is which) [ inl bad ↦ cc | inr bad ↦ cc ]
-  refused_only s asked Done t is which = elim (is_refusal status.Ok s is which) [ inl bad ↦ cc | inr bad ↦ cc ]
-  refused_only s asked Usage t is which = elim (is_refusal status.Usage s is which) [ inl bad ↦ cc | inr bad ↦ cc ]
-  refused_only s asked ReadFault t is which = elim (is_refusal status.ReadFault s is which) [ inl bad ↦ cc | inr bad ↦ cc ]
-  refused_only s asked WriteFault t is which = elim (is_refusal status.WriteFault s is which) [ inl bad ↦ cc | inr bad ↦ cc ]
-  refused_only s asked Memory t is which = elim (is_refusal status.Memory s is which) [ inl bad ↦ cc | inr bad ↦ cc ]
+  pub refused_only : (s : Status) (asked : Option Command) (e : Ending) → Done_so asked e → Some (status_of e) ≡ Some s → (s ≡ status.BadWav) ⊎ (s ≡ status.Unsupported) → IfSome source.left (IsRefused s)
+  refused_only s (Some command) e d is which = refused_by_end s command e d is which
+  refused_only s None e d is which = absurd (usage_is_no_refusal s (usage_status e s d.0 is) which)
+
+  stream_by_end : (command : Command) (e : Ending) → Ends command e source sink → Some (status_of e) ≡ Some status.BadStream → IfSome source.left (λ bytes. IsSome (deviation_in bytes))
+  stream_by_end command (Deviates why) d is = IfSome_then source.left d.explains.1 (λ bytes same. rw same refl)
+  stream_by_end command (Refused why) d is = absurd (no_refusal why status.BadStream is (λ same. cc) (λ same. cc) (λ same. cc))
+  stream_by_end command Done d is = cc
+  stream_by_end command Usage d is = cc
+  stream_by_end command ReadFault d is = cc
+  stream_by_end command WriteFault d is = cc
+  stream_by_end command Memory d is = cc
 
   -- a stream is refused for a deviation
-  pub bad_stream_only : (asked : Option Command) (e : Ending) → Told asked e → Some (status_of e) ≡ Some status.BadStream → IfSome left (λ bytes. IsSome (deviation_in bytes))
-  bad_stream_only asked (Deviates why) (inl u) is = let bad = u.1 in cc
-  bad_stream_only asked (Deviates why) (inr t) is = IfSome_then left t.2.1 (λ bytes same. rw same refl)
-  bad_stream_only asked (Refused why) t is = absurd (no_refusal why status.BadStream is (λ same. cc) (λ same. cc) (λ same. cc))
-  bad_stream_only asked Done t is = cc
-  bad_stream_only asked Usage t is = cc
-  bad_stream_only asked ReadFault t is = cc
-  bad_stream_only asked WriteFault t is = cc
-  bad_stream_only asked Memory t is = cc
+  pub bad_stream_only : (asked : Option Command) (e : Ending) → Done_so asked e → Some (status_of e) ≡ Some status.BadStream → IfSome source.left (λ bytes. IsSome (deviation_in bytes))
+  bad_stream_only (Some command) e d is = stream_by_end command e d is
+  bad_stream_only None e d is = let bad = usage_status e status.BadStream d.0 is in cc
 
-  refused_of : (rate : Rate) (e : Ending) → Ends (Encode rate) e → (source_rose → ⊥) → IfSome left (λ bytes. (why : WavFault) → wav_of bytes ≡ Err why → Some (status_of e) ≡ Some (refusal_of why))
-  refused_of rate Done e steady = IfSome_then left e (λ bytes p why is. absurd (some_not_none (encoding_in rate bytes) _ p.0 (no_encoding rate bytes why is)))
-  refused_of rate (Refused because) e steady = IfSome_then left e.1 (λ bytes same why is. ap (λ w. Some (refusal_of w)) (same_fault (wav_of bytes) because why same is))
-  refused_of rate (Deviates why) e steady = let bad = e.0 in cc
-  refused_of rate ReadFault e steady = absurd (steady e.0)
-  refused_of rate WriteFault e steady = IfSome_then left e.1 (λ bytes p why is. absurd (some_not_none (encoding_in rate bytes) _ p (no_encoding rate bytes why is)))
-  refused_of rate Memory e steady = IfSome_then left e.0 (λ bytes accepted why is. absurd (not_both (wav_of bytes) accepted.0 why accepted.1 is))
-  refused_of rate Usage e steady = absurd e
-
-  refused_by : (command : Command) (e : Ending) → Ends command e → Encodes command → (source_rose → ⊥) → IfSome left (λ bytes. (why : WavFault) → wav_of bytes ≡ Err why → Some (status_of e) ≡ Some (refusal_of why))
-  refused_by (Encode rate) e ends encodes steady = refused_of rate e ends steady
-  refused_by Check e ends encodes steady = absurd encodes
+  refused_of : (rate : Rate) (e : Ending) → Ends (Encode rate) e source sink → IsSteady source.faults source.faults_now → IfSome source.left (λ bytes. (why : WavFault) → wav_of bytes ≡ Err why → Some (status_of e) ≡ Some (refusal_of why))
+  refused_of rate Done d steady = IfSome_then source.left d.explains (λ bytes p why is. absurd (some_not_none (encoding_in rate bytes) _ p (no_encoding rate bytes why is)))
+  refused_of rate (Refused because) d steady = IfSome_then source.left d.explains.1 (λ bytes same why is. ap (λ w. Some (refusal_of w)) (same_fault (wav_of bytes) because why same is))
+  refused_of rate (Deviates why) d steady = let bad = d.explains.0 in cc
+  refused_of rate ReadFault d steady = absurd (steady_count source.faults source.faults_now steady d.reads)
+  refused_of rate WriteFault d steady = IfSome_then source.left d.explains (λ bytes p why is. absurd (some_not_none (encoding_in rate bytes) _ p (no_encoding rate bytes why is)))
+  refused_of rate Memory d steady = IfSome_then source.left d.explains.1 (λ bytes accepted why is. absurd (not_both (wav_of bytes) accepted.0 why accepted.1 is))
+  refused_of rate Usage d steady = absurd d.explains
 
   -- a head that is refused is answered so where no read failed
-  pub refused_there : (asked : Option Command) (e : Ending) → Told asked e → IsSomeAnd asked Encodes → (source_rose → ⊥) → IfSome left (λ bytes. (why : WavFault) → wav_of bytes ≡ Err why → Some (status_of e) ≡ Some (refusal_of why))
-  refused_there asked e (inl u) encodes steady = absurd (some_not_none asked _ encodes u.0)
-  refused_there asked e (inr t) encodes steady = refused_by t.0 e t.2 (rw t.1 at encodes) steady
+  pub refused_there : (asked : Option Command) (e : Ending) → Done_so asked e → IsSomeAnd asked Encodes → IsSteady source.faults source.faults_now → IfSome source.left (λ bytes. (why : WavFault) → wav_of bytes ≡ Err why → Some (status_of e) ≡ Some (refusal_of why))
+  refused_there (Some (Encode rate)) e d encodes steady = refused_of rate e d steady
+  refused_there (Some Check) e d encodes steady = absurd encodes
+  refused_there None e d encodes steady = absurd encodes
 
-  deviates_of : (e : Ending) → Ends Check e → (source_rose → ⊥) → IfSome left (λ bytes. IsSome (deviation_in bytes) → (Some (status_of e) ≡ Some status.BadStream) ⊎ (Some (status_of e) ≡ Some status.Memory))
-  deviates_of Done e steady = IfSome_then left e (λ bytes p some. absurd (some_not_none (line_in bytes) _ p.0 (no_line bytes some)))
-  deviates_of (Refused because) e steady = absurd e.0
-  deviates_of (Deviates why) e steady = IfSome-always left _ (λ bytes some. inl refl)
-  deviates_of ReadFault e steady = absurd (steady e.0)
-  deviates_of WriteFault e steady = IfSome_then left e.1 (λ bytes p some. absurd (some_not_none (line_in bytes) _ p (no_line bytes some)))
-  deviates_of Memory e steady = IfSome-always left _ (λ bytes some. inr refl)
-  deviates_of Usage e steady = absurd e
+  deviates_of : (e : Ending) → Ends Check e source sink → IsSteady source.faults source.faults_now → IfSome source.left (λ bytes. IsSome (deviation_in bytes) → Some (status_of e) ≡ Some status.BadStream)
+  deviates_of Done d steady = IfSome_then source.left d.explains (λ bytes p some. absurd (some_not_none (line_in bytes) _ p (no_line bytes some)))
+  deviates_of (Refused because) d steady = absurd d.explains.0
+  deviates_of (Deviates why) d steady = IfSome-always source.left _ (λ bytes some. refl)
+  deviates_of ReadFault d steady = absurd (steady_count source.faults source.faults_now steady d.reads)
+  deviates_of WriteFault d steady = IfSome_then source.left d.explains (λ bytes p some. absurd (some_not_none (line_in bytes) _ p (no_line bytes some)))
+  deviates_of Memory d steady = absurd d.explains.0
+  deviates_of Usage d steady = absurd d.explains
 
-  check_is : (asked : Option Command) (command : Command) → asked ≡ Some Check → asked ≡ Some command → command ≡ Check
-  check_is asked command check is = cc
+  check_is : (command : Command) → Some command ≡ Some Check → command ≡ Check
+  check_is command same = cc
 
-  -- a deviation is answered so where no read failed, or there is no memory
-  pub deviates_there : (asked : Option Command) (e : Ending) → Told asked e → asked ≡ Some Check → (source_rose → ⊥) →
-      IfSome left (λ bytes. IsSome (deviation_in bytes) → (Some (status_of e) ≡ Some status.BadStream) ⊎ (Some (status_of e) ≡ Some status.Memory))
-  deviates_there asked e (inl u) check steady = let bad = sym check ∙ u.0 in cc
-  deviates_there asked e (inr t) check steady = deviates_of e (rw (check_is asked t.0 check t.1) at t.2) steady
+  -- a deviation is answered so where no read failed
+  pub deviates_there : (asked : Option Command) (e : Ending) → Done_so asked e → asked ≡ Some Check → IsSteady source.faults source.faults_now →
+      IfSome source.left (λ bytes. IsSome (deviation_in bytes) → Some (status_of e) ≡ Some status.BadStream)
+  deviates_there (Some command) e d check steady =
+      let ends : Ends Check e source sink = rw (check_is command check) at d in
+      deviates_of e ends steady
+  deviates_there None e d check steady = cc
+
+  untouched_by_end : (command : Command) (e : Ending) → Ends command e source sink → (Some (status_of e) ≡ Some status.Ok → ⊥) → (Some (status_of e) ≡ Some status.WriteFault → ⊥) → sink.untouched
+  untouched_by_end command Done d not_ok not_write = absurd (not_ok refl)
+  untouched_by_end command (Refused why) d not_ok not_write = d.explains.3
+  untouched_by_end command (Deviates why) d not_ok not_write = d.explains.4
+  untouched_by_end command ReadFault d not_ok not_write = d.explains
+  untouched_by_end command WriteFault d not_ok not_write = absurd (not_write refl)
+  untouched_by_end command Memory d not_ok not_write = d.explains.2
+  untouched_by_end command Usage d not_ok not_write = absurd d.explains
 
   -- only at success and at a failed write anything is written
-  pub untouched_else : (asked : Option Command) (e : Ending) → Told asked e → (Some (status_of e) ≡ Some status.Ok → ⊥) → (Some (status_of e) ≡ Some status.WriteFault → ⊥) → untouched
-  untouched_else asked e (inl u) not_ok not_write = u.2
-  untouched_else asked Done (inr t) not_ok not_write = absurd (not_ok refl)
-  untouched_else asked (Refused why) (inr t) not_ok not_write = t.2.3
-  untouched_else asked (Deviates why) (inr t) not_ok not_write = t.2.4
-  untouched_else asked ReadFault (inr t) not_ok not_write = t.2.1
-  untouched_else asked WriteFault (inr t) not_ok not_write = absurd (not_write refl)
-  untouched_else asked Memory (inr t) not_ok not_write = t.2.1
-  untouched_else asked Usage (inr t) not_ok not_write = absurd t.2
+  pub untouched_else : (asked : Option Command) (e : Ending) → Done_so asked e → (Some (status_of e) ≡ Some status.Ok → ⊥) → (Some (status_of e) ≡ Some status.WriteFault → ⊥) → sink.untouched
+  untouched_else (Some command) e d not_ok not_write = untouched_by_end command e d not_ok not_write
+  untouched_else None e d not_ok not_write = d.2
 
-  refused_untouched_of : (command : Command) (e : Ending) → Ends command e → IfSome left (λ bytes. output_of command bytes ≡ None → untouched)
-  refused_untouched_of command Done e = IfSome_then left e (λ bytes p none. absurd (some_not_none (output_of command bytes) _ p.0 none))
-  refused_untouched_of command (Refused why) e = IfSome-always left _ (λ bytes none. e.3)
-  refused_untouched_of command (Deviates why) e = IfSome-always left _ (λ bytes none. e.4)
-  refused_untouched_of command ReadFault e = IfSome-always left _ (λ bytes none. e.1)
-  refused_untouched_of command WriteFault e = IfSome_then left e.1 (λ bytes p none. absurd (some_not_none (output_of command bytes) _ p none))
-  refused_untouched_of command Memory e = IfSome-always left _ (λ bytes none. e.1)
-  refused_untouched_of command Usage e = absurd e
+  refused_untouched_of : (command : Command) (e : Ending) → Ends command e source sink → IfSome source.left (λ bytes. output_of command bytes ≡ None → sink.untouched)
+  refused_untouched_of command Done d = IfSome_then source.left d.explains (λ bytes p none. absurd (some_not_none (output_of command bytes) _ p none))
+  refused_untouched_of command (Refused why) d = IfSome-always source.left _ (λ bytes none. d.explains.3)
+  refused_untouched_of command (Deviates why) d = IfSome-always source.left _ (λ bytes none. d.explains.4)
+  refused_untouched_of command ReadFault d = IfSome-always source.left _ (λ bytes none. d.explains)
+  refused_untouched_of command WriteFault d = IfSome_then source.left d.explains (λ bytes p none. absurd (some_not_none (output_of command bytes) _ p none))
+  refused_untouched_of command Memory d = IfSome-always source.left _ (λ bytes none. d.explains.2)
+  refused_untouched_of command Usage d = absurd d.explains
 
   -- where a file is refused nothing is written
-  pub refused_untouched : (asked : Option Command) (e : Ending) → Told asked e → IfSome asked (λ command. IfSome left (λ bytes. output_of command bytes ≡ None → untouched))
-  refused_untouched asked e (inl u) = rw u.0 tt
-  refused_untouched asked e (inr t) = rw t.1 (refused_untouched_of t.0 e t.2)
+  pub refused_untouched : (asked : Option Command) (e : Ending) → Done_so asked e → IfSome asked (λ command. IfSome source.left (λ bytes. output_of command bytes ≡ None → sink.untouched))
+  refused_untouched (Some command) e d = refused_untouched_of command e d
+  refused_untouched None e d = tt
 
-  -- at success the sink took all of the output, and what the command leaves is left
-  done : (asked : Option Command) (e : Ending) → Told asked e → Some (status_of e) ≡ Some status.Ok → (command : Command) × (asked ≡ Some command) × Ends command Done
-  done asked Done (inl u) is = let bad = u.1 in cc
-  done asked Done (inr t) is = t
-  done asked (Refused why) t is = absurd (no_refusal why status.Ok is (λ same. cc) (λ same. cc) (λ same. cc))
-  done asked (Deviates why) t is = cc
-  done asked Usage t is = cc
-  done asked ReadFault t is = cc
-  done asked WriteFault t is = cc
-  done asked Memory t is = cc
+  whole_by_end : (command : Command) (e : Ending) → Ends command e source sink → Some (status_of e) ≡ Some status.Ok →
+      IfSome source.left (λ bytes. IsSomeAnd (output_of command bytes) (λ output. Takes sink.taken sink.taken_now output))
+  whole_by_end command Done d is = d.explains
+  whole_by_end command (Refused why) d is = absurd (no_refusal why status.Ok is (λ same. cc) (λ same. cc) (λ same. cc))
+  whole_by_end command (Deviates why) d is = cc
+  whole_by_end command Usage d is = cc
+  whole_by_end command ReadFault d is = cc
+  whole_by_end command WriteFault d is = cc
+  whole_by_end command Memory d is = cc
 
-  pub whole : (asked : Option Command) (e : Ending) → Told asked e → Some (status_of e) ≡ Some status.Ok →
-      IsSomeAnd asked (λ command. IfSome left (λ bytes. IsSomeAnd (output_of command bytes) (λ output. Takes old new output)))
-  whole asked e t is = let d = done asked e t is in rw d.1 (IfSome_then left d.2 (λ bytes both. both.0))
+  -- at success the sink took all of the output
+  pub whole : (asked : Option Command) (e : Ending) → Done_so asked e → Some (status_of e) ≡ Some status.Ok →
+      IsSomeAnd asked (λ command. IfSome source.left (λ bytes. IsSomeAnd (output_of command bytes) (λ output. Takes sink.taken sink.taken_now output)))
+  whole (Some command) e d is = whole_by_end command e d is
+  whole None e d is = let bad = usage_status e status.Ok d.0 is in cc
 
-  pub rest : (asked : Option Command) (e : Ending) → Told asked e → Some (status_of e) ≡ Some status.Ok →
-      IsSomeAnd asked (λ command. IfSome left (λ bytes. left_now ≡ Some (rest_of command bytes)))
-  rest asked e t is = let d = done asked e t is in rw d.1 (IfSome_then left d.2 (λ bytes both. both.1))
+  -- what is left is what its status says
+  pub leaves : (asked : Option Command) (e : Ending) → Done_so asked e → IfSome asked (λ command. IfSome source.left (λ bytes. Leaves command (status_of e) bytes source.left_now))
+  leaves (Some command) e d = d.left
+  leaves None e d = tt
 
-  front_of_none : (command : Command) → Stands old new → IfSome left (λ bytes. IfSome (output_of command bytes) (λ output. TakesPrefix old new output))
-  front_of_none command stands = IfSome-always left _ (λ bytes. IfSome-always (output_of command bytes) _ (λ output. TakesPrefix-none old new output stands))
+  front_of_none : (command : Command) → Stands sink.taken sink.taken_now → IfSome source.left (λ bytes. IfSome (output_of command bytes) (λ output. TakesPrefix sink.taken sink.taken_now output))
+  front_of_none command stands = IfSome-always source.left _ (λ bytes. IfSome-always (output_of command bytes) _ (λ output. TakesPrefix-none sink.taken sink.taken_now output stands))
+
+  front_by_end : (sink.untouched → Stands sink.taken sink.taken_now) → (command : Command) (e : Ending) → Ends command e source sink → IfSome source.left (λ bytes. IfSome (output_of command bytes) (λ output. TakesPrefix sink.taken sink.taken_now output))
+  front_by_end same command Done d = IfSome_then source.left d.explains (λ bytes p. IfSome-from_and (output_of command bytes) _ _ p (λ output takes. TakesPrefix-whole sink.taken sink.taken_now output takes))
+  front_by_end same command (Refused why) d = front_of_none command (same d.explains.3)
+  front_by_end same command (Deviates why) d = front_of_none command (same d.explains.4)
+  front_by_end same command ReadFault d = front_of_none command (same d.explains)
+  front_by_end same command WriteFault d = IfSome_then source.left d.explains (λ bytes p. IfSome-from_and (output_of command bytes) _ _ p (λ output takes. takes))
+  front_by_end same command Memory d = front_of_none command (same d.explains.2)
+  front_by_end same command Usage d = absurd d.explains
 
   -- whatever the ending, a front of the output was written
-  front_of : (untouched → Stands old new) → (command : Command) (e : Ending) → Ends command e → IfSome left (λ bytes. IfSome (output_of command bytes) (λ output. TakesPrefix old new output))
-  front_of same command Done e = IfSome_then left e (λ bytes p. IfSome-from_and (output_of command bytes) _ _ p.0 (λ output takes. TakesPrefix-whole old new output takes))
-  front_of same command (Refused why) e = front_of_none command (same e.3)
-  front_of same command (Deviates why) e = front_of_none command (same e.4)
-  front_of same command ReadFault e = front_of_none command (same e.1)
-  front_of same command WriteFault e = IfSome_then left e.1 (λ bytes p. IfSome-from_and (output_of command bytes) _ _ p (λ output takes. takes))
-  front_of same command Memory e = front_of_none command (same e.1)
-  front_of same command Usage e = absurd e
+  pub written : (sink.untouched → Stands sink.taken sink.taken_now) → (asked : Option Command) (e : Ending) → Done_so asked e →
+      IfSome asked (λ command. IfSome source.left (λ bytes. IfSome (output_of command bytes) (λ output. TakesPrefix sink.taken sink.taken_now output)))
+  written same (Some command) e d = front_by_end same command e d
+  written same None e d = tt
 
-  pub written : (untouched → Stands old new) → (asked : Option Command) (e : Ending) → Told asked e →
-      IfSome asked (λ command. IfSome left (λ bytes. IfSome (output_of command bytes) (λ output. TakesPrefix old new output)))
-  written same asked e (inl u) = rw u.0 tt
-  written same asked e (inr t) = rw t.1 (front_of same t.0 e t.2)
+  reads_by_end : (command : Command) (e : Ending) → Ends command e source sink → Some (status_of e) ≡ Some status.ReadFault → source.faults_now ≡ count_after source.faults
+  reads_by_end command ReadFault d is = d.reads
+  reads_by_end command (Refused why) d is = absurd (d.explains.2 (read_is_read why is))
+  reads_by_end command (Deviates why) d is = cc
+  reads_by_end command Done d is = cc
+  reads_by_end command Usage d is = cc
+  reads_by_end command WriteFault d is = cc
+  reads_by_end command Memory d is = cc
 
-  pub named : (asked : Option Command) (e : Ending) → Told asked e → IfSome left (IsNamed e)
-  named asked (Refused why) (inl u) = let bad = u.1 in cc
-  named asked (Refused why) (inr t) = t.2.1
-  named asked (Deviates why) (inl u) = let bad = u.1 in cc
-  named asked (Deviates why) (inr t) = t.2.1
-  named asked Done t = IfSome-always left _ (λ bytes. tt)
-  named asked Usage t = IfSome-always left _ (λ bytes. tt)
-  named asked ReadFault t = IfSome-always left _ (λ bytes. tt)
-  named asked WriteFault t = IfSome-always left _ (λ bytes. tt)
-  named asked Memory t = IfSome-always left _ (λ bytes. tt)
+  -- a read fault is one failed read
+  pub read_fault : (asked : Option Command) (e : Ending) → Done_so asked e → Some (status_of e) ≡ Some status.ReadFault → source.faults_now ≡ count_after source.faults
+  read_fault (Some command) e d is = reads_by_end command e d is
+  read_fault None e d is = let bad = usage_status e status.ReadFault d.0 is in cc
 
-  pub read_fault : (asked : Option Command) (e : Ending) → Told asked e → Some (status_of e) ≡ Some status.ReadFault → source_rose
-  read_fault asked ReadFault (inl u) is = let bad = u.1 in cc
-  read_fault asked ReadFault (inr t) is = t.2.0
-  read_fault asked (Refused why) (inl u) is = let bad = u.1 in cc
-  read_fault asked (Refused why) (inr t) is = absurd (t.2.2 (read_is_read why is))
-  read_fault asked (Deviates why) t is = cc
-  read_fault asked Done t is = cc
-  read_fault asked Usage t is = cc
-  read_fault asked WriteFault t is = cc
-  read_fault asked Memory t is = cc
+  writes_by_end : (command : Command) (e : Ending) → Ends command e source sink → Some (status_of e) ≡ Some status.WriteFault → sink.faults_now ≡ count_after sink.faults
+  writes_by_end command WriteFault d is = d.writes
+  writes_by_end command (Refused why) d is = absurd (no_refusal why status.WriteFault is (λ same. cc) (λ same. cc) (λ same. cc))
+  writes_by_end command (Deviates why) d is = cc
+  writes_by_end command Done d is = cc
+  writes_by_end command Usage d is = cc
+  writes_by_end command ReadFault d is = cc
+  writes_by_end command Memory d is = cc
 
-  pub write_fault : (asked : Option Command) (e : Ending) → Told asked e → Some (status_of e) ≡ Some status.WriteFault → sink_rose
-  write_fault asked WriteFault (inl u) is = let bad = u.1 in cc
-  write_fault asked WriteFault (inr t) is = t.2.0
-  write_fault asked (Refused why) t is = absurd (no_refusal why status.WriteFault is (λ same. cc) (λ same. cc) (λ same. cc))
-  write_fault asked (Deviates why) t is = cc
-  write_fault asked Done t is = cc
-  write_fault asked Usage t is = cc
-  write_fault asked ReadFault t is = cc
-  write_fault asked Memory t is = cc
+  -- a write fault is one failed write
+  pub write_fault : (asked : Option Command) (e : Ending) → Done_so asked e → Some (status_of e) ≡ Some status.WriteFault → sink.faults_now ≡ count_after sink.faults
+  write_fault (Some command) e d is = writes_by_end command e d is
+  write_fault None e d is = let bad = usage_status e status.WriteFault d.0 is in cc
+
+  reads_else : (e : Ending) → source.faults_now ≡ failed_reads_at e source.faults → (Some (status_of e) ≡ Some status.ReadFault → ⊥) → source.faults_now ≡ source.faults
+  reads_else Done reads other = reads
+  reads_else (Refused why) reads other = reads
+  reads_else (Deviates why) reads other = reads
+  reads_else ReadFault reads other = absurd (other refl)
+  reads_else WriteFault reads other = reads
+  reads_else Memory reads other = reads
+  reads_else Usage reads other = reads
+
+  -- at any other status no read failed
+  pub steady_read : (source.unread → source.faults_now ≡ source.faults) → (asked : Option Command) (e : Ending) → Done_so asked e → (Some (status_of e) ≡ Some status.ReadFault → ⊥) → source.faults_now ≡ source.faults
+  steady_read same (Some command) e d other = reads_else e d.reads other
+  steady_read same None e d other = same d.1
+
+  writes_else : (e : Ending) → sink.faults_now ≡ failed_writes_at e sink.faults → (Some (status_of e) ≡ Some status.WriteFault → ⊥) → sink.faults_now ≡ sink.faults
+  writes_else Done writes other = writes
+  writes_else (Refused why) writes other = writes
+  writes_else (Deviates why) writes other = writes
+  writes_else ReadFault writes other = writes
+  writes_else WriteFault writes other = absurd (other refl)
+  writes_else Memory writes other = writes
+  writes_else Usage writes other = writes
+
+  -- and no write
+  pub steady_write : (sink.untouched → sink.faults_now ≡ sink.faults) → (asked : Option Command) (e : Ending) → Done_so asked e → (Some (status_of e) ≡ Some status.WriteFault → ⊥) → sink.faults_now ≡ sink.faults
+  steady_write same (Some command) e d other = writes_else e d.writes other
+  steady_write same None e d other = same d.2
 
   -- a file that is refused has no output
   refused_none : (command : Command) (bytes : List ℕ) (why : WavFault) → Encodes command → wav_of bytes ≡ Err why → output_of command bytes ≡ None
@@ -293,24 +355,24 @@ module _ (left left_now : Option (List ℕ)) (old new : List ℕ → Type 0) (so
   not_some None none some = cc
   not_some (Some text) none some = cc
 
-  complete_of : (command : Command) (e : Ending) → Ends command e → (source_rose → ⊥) → (sink_rose → ⊥) →
-      IfSome left (λ bytes. IsSome (output_of command bytes) → (Some (status_of e) ≡ Some status.Ok) ⊎ (Some (status_of e) ≡ Some status.Memory))
-  complete_of command Done e steady steady_sink = IfSome-always left _ (λ bytes some. inl refl)
-  complete_of command (Refused why) e steady steady_sink = IfSome_then left e.1 (λ bytes same some. absurd (not_some (output_of command bytes) (refused_none command bytes why e.0 same) some))
-  complete_of command (Deviates why) e steady steady_sink = IfSome_then left e.1 (λ bytes same some. absurd (not_some (output_of command bytes) (deviates_none command bytes why e.0 same) some))
-  complete_of command ReadFault e steady steady_sink = absurd (steady e.0)
-  complete_of command WriteFault e steady steady_sink = absurd (steady_sink e.0)
-  complete_of command Memory e steady steady_sink = IfSome-always left _ (λ bytes some. inr refl)
-  complete_of command Usage e steady steady_sink = absurd e
+  complete_of : (command : Command) (e : Ending) → Ends command e source sink → IsSteady source.faults source.faults_now → IsSteady sink.faults sink.faults_now →
+      IfSome source.left (λ bytes. IsSome (output_of command bytes) → (Some (status_of e) ≡ Some status.Ok) ⊎ ((Some (status_of e) ≡ Some status.Memory) × Encodes command))
+  complete_of command Done d steady steady_sink = IfSome-always source.left _ (λ bytes some. inl refl)
+  complete_of command (Refused why) d steady steady_sink = IfSome_then source.left d.explains.1 (λ bytes same some. absurd (not_some (output_of command bytes) (refused_none command bytes why d.explains.0 same) some))
+  complete_of command (Deviates why) d steady steady_sink = IfSome_then source.left d.explains.1 (λ bytes same some. absurd (not_some (output_of command bytes) (deviates_none command bytes why d.explains.0 same) some))
+  complete_of command ReadFault d steady steady_sink = absurd (steady_count source.faults source.faults_now steady d.reads)
+  complete_of command WriteFault d steady steady_sink = absurd (steady_count sink.faults sink.faults_now steady_sink d.writes)
+  complete_of command Memory d steady steady_sink = IfSome-always source.left _ (λ bytes some. inr (refl, d.explains.0))
+  complete_of command Usage d steady steady_sink = absurd d.explains
 
   -- the output is written where nothing failed, or there is no memory
-  pub complete : (asked : Option Command) (e : Ending) → Told asked e → (source_rose → ⊥) → (sink_rose → ⊥) →
-      IfSome asked (λ command. IfSome left (λ bytes. IsSome (output_of command bytes) → (Some (status_of e) ≡ Some status.Ok) ⊎ (Some (status_of e) ≡ Some status.Memory)))
-  complete asked e (inl u) steady steady_sink = rw u.0 tt
-  complete asked e (inr t) steady steady_sink = rw t.1 (complete_of t.0 e t.2 steady steady_sink)
+  pub complete : (asked : Option Command) (e : Ending) → Done_so asked e → IsSteady source.faults source.faults_now → IsSteady sink.faults sink.faults_now →
+      IfSome asked (λ command. IfSome source.left (λ bytes. IsSome (output_of command bytes) → (Some (status_of e) ≡ Some status.Ok) ⊎ ((Some (status_of e) ≡ Some status.Memory) × Encodes command)))
+  complete (Some command) e d steady steady_sink = complete_of command e d steady steady_sink
+  complete None e d steady steady_sink = tt
 
 -- what was written is whole where the count of faults was steady
 pub whole_if_steady : {T E : Type 0} (old new : List ℕ → Type 0) (before now : ℕ) (result : Result T E) (text : List ℕ) → IsSteady before now →
-    Writes old new result text → OnErr result (Rose before now) → Takes old new text
-whole_if_steady old new before now (Ok v) text steady writes rose = writes
-whole_if_steady old new before now (Err e) text steady writes rose = absurd (omega (arith, steady, rose))
+    Writes old new result text → OnErr result (now ≡ count_after before) → Takes old new text
+whole_if_steady old new before now (Ok v) text steady writes one = writes
+whole_if_steady old new before now (Err e) text steady writes one = absurd (steady_count before now steady one)

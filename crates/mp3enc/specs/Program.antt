@@ -1,7 +1,10 @@
 -- What an ending says of the input and the output of a command.
-use Rattle.std.specs.Prelude.{◌≡◌, ◌≢◌, ℕ, List, [], Option, Some, None, Err, IfSome, IsSomeAnd, ⊤}
+use Rattle.std.specs.Prelude.{◌≡◌, ◌≢◌, ℕ, List, [], Option, Some, None, Err, IfSome, IsSomeAnd, ◌⊎◌, ⊤}
+use Rattle.l3_io.specs.Causes.{IsSteady, count_after}
 use Rattle.l3_io.specs.Taken.{Takes, TakesPrefix}
-use Rattle.l3_encoder.specs.Encoded.{encoding_in, rest_in, IsAccepted}
+use Rattle.l3_encoder.specs.Changes.{SourceChange, SinkChange}
+use Rattle.l3_encoder.specs.Encoded.{encoding_in, rest_in, IsAccepted, HasReadSome}
+use Rattle.l3_reader.specs.InTurn.{HasStopped}
 use Rattle.l3_stream.specs.declared.fault.StreamFault.TheVariants as stream
 use Rattle.l3_wav.specs.declared.fault.WavFault.{WavFault}
 use Rattle.l3_wav.specs.declared.fault.WavFault.TheVariants as fault
@@ -10,21 +13,24 @@ use Rattle.mp3enc.specs.declared.status.Status.{Status}
 use Rattle.mp3enc.specs.declared.status.Status.TheVariants as status
 use Rattle.mp3enc.specs.declared.ending.Ending.{Ending}
 use Rattle.mp3enc.specs.declared.ending.Ending.TheVariants as ending
+use Rattle.mp3enc.specs.declared.process.NoWords.{NoWords}
+use Rattle.mp3enc.specs.declared.process.NoWords.TheVariants as no_words
 use Rattle.mp3enc.specs.declared.words.Command.{Command}
 use Rattle.mp3enc.specs.declared.words.Command.TheVariants.{Encode, Check}
-use Rattle.mp3enc.specs.Check.{line_in, deviation_in}
-use Rattle.mp3enc.specs.Status.{refusal_of, status_of, text_of}
+use Rattle.mp3enc.specs.Check.{frames_limit, line_in, deviation_in}
+use Rattle.mp3enc.specs.Status.{exit_number, refusal_of, status_of, text_of}
 
 -- the head of the file is refused, with this status
 abbrev pub IsRefused : Status → List ℕ → Type 0
 IsRefused s bytes = (why : WavFault) × (wav_of bytes ≡ Err why) × (refusal_of why ≡ s)
 
--- what a command makes of a file: its encoding, or the line of a stream; nothing of a file that it refuses
+-- what a command makes of a file: its encoding, or the line of a stream; nothing of a file that it
+-- refuses
 abbrev pub output_of : Command → List ℕ → Option (List ℕ)
 output_of (Encode rate) bytes = encoding_in rate bytes
 output_of Check bytes = line_in bytes
 
--- what it leaves of it: what follows the data, or nothing
+-- what it leaves of a file that it takes: what follows the data, or nothing
 abbrev pub rest_of : Command → List ℕ → List ℕ
 rest_of (Encode rate) bytes = rest_in bytes
 rest_of Check bytes = []
@@ -34,24 +40,69 @@ abbrev pub Encodes : Command → Type 0
 Encodes (Encode rate) = ⊤
 Encodes Check = ⊥
 
--- a file of which a command may find no memory for the rest: to be encoded its head is accepted
-abbrev pub MayLackMemory : Command → List ℕ → Type 0
-MayLackMemory (Encode rate) bytes = IsAccepted bytes
-MayLackMemory Check bytes = ⊤
+-- what is left where a read failed: of head and data some is gone, or some whole frames and less
+-- than one more
+abbrev pub LeavesMidway : Command → List ℕ → Option (List ℕ) → Type 0
+LeavesMidway (Encode rate) bytes now = HasReadSome bytes now
+LeavesMidway Check bytes now = HasStopped frames_limit bytes stream.Read now
 
--- of a command; `left` and `left_now` are what the source told before and after, `old` and `new` what the sink stood for
-abbrev pub Explains : Command → Ending → (source_rose sink_rose untouched : Type 0) (left left_now : Option (List ℕ)) (old new : List ℕ → Type 0) → Type 0
-Explains command ending.Done source_rose sink_rose untouched left left_now old new =
-    IfSome left (λ bytes. IsSomeAnd (output_of command bytes) (λ output. Takes old new output) × (left_now ≡ Some (rest_of command bytes)))
-Explains command (ending.Refused why) source_rose sink_rose untouched left left_now old new =
-    Encodes command × IfSome left (λ bytes. wav_of bytes ≡ Err why) × (why ≢ fault.Read) × untouched
-Explains command (ending.Deviates why) source_rose sink_rose untouched left left_now old new =
-    (command ≡ Check) × IfSome left (λ bytes. deviation_in bytes ≡ Some why) × (why ≢ stream.Read) × (why ≢ stream.Memory) × untouched
-Explains command ending.ReadFault source_rose sink_rose untouched left left_now old new = source_rose × untouched
-Explains command ending.WriteFault source_rose sink_rose untouched left left_now old new =
-    sink_rose × IfSome left (λ bytes. IsSomeAnd (output_of command bytes) (λ output. TakesPrefix old new output))
-Explains command ending.Memory source_rose sink_rose untouched left left_now old new = IfSome left (MayLackMemory command) × untouched
-Explains command ending.Usage source_rose sink_rose untouched left left_now old new = ⊥
+-- what a command leaves of a file, by its status: of a refused head what follows the bytes that
+-- refuse it; of a stream that deviates what follows the frame at which it does, or its header where
+-- that alone tells
+abbrev pub Leaves : Command → Status → List ℕ → Option (List ℕ) → Type 0
+Leaves command status.Ok bytes now = now ≡ Some (rest_of command bytes)
+Leaves command status.Memory bytes now = HasReadSome bytes now
+Leaves command status.Usage bytes now = now ≡ Some bytes
+Leaves command status.BadWav bytes now = now ≡ Some (rest_in bytes)
+Leaves command status.Unsupported bytes now = now ≡ Some (rest_in bytes)
+Leaves command status.ReadFault bytes now = LeavesMidway command bytes now
+Leaves command status.WriteFault bytes now = now ≡ Some (rest_of command bytes)
+Leaves command status.BadStream bytes now = IsSomeAnd (deviation_in bytes) (λ why. HasStopped frames_limit bytes why now)
+
+-- how many failed reads are counted after an ending, and how many failed writes: one more at its
+-- fault, and else none
+abbrev pub failed_reads_at : Ending → ℕ → ℕ
+failed_reads_at ending.ReadFault before = count_after before
+failed_reads_at other before = before
+
+abbrev pub failed_writes_at : Ending → ℕ → ℕ
+failed_writes_at ending.WriteFault before = count_after before
+failed_writes_at other before = before
+
+-- what an ending of a command says of the file and of the bytes that were written
+abbrev pub ExplainsEnding : Command → Ending → SourceChange → SinkChange → Type 0
+ExplainsEnding command ending.Done source sink = IfSome source.left (λ bytes.
+    IsSomeAnd (output_of command bytes) (λ output. Takes sink.taken sink.taken_now output))
+ExplainsEnding command (ending.Refused why) source sink =
+    Encodes command × IfSome source.left (λ bytes. wav_of bytes ≡ Err why) × (why ≢ fault.Read) × sink.untouched
+ExplainsEnding command (ending.Deviates why) source sink =
+    (command ≡ Check) × IfSome source.left (λ bytes. deviation_in bytes ≡ Some why)
+    × (why ≢ stream.Read) × (why ≢ stream.Memory) × sink.untouched
+ExplainsEnding command ending.ReadFault source sink = sink.untouched
+ExplainsEnding command ending.WriteFault source sink = IfSome source.left (λ bytes.
+    IsSomeAnd (output_of command bytes) (λ output. TakesPrefix sink.taken sink.taken_now output))
+ExplainsEnding command ending.Memory source sink = Encodes command × IfSome source.left IsAccepted × sink.untouched
+ExplainsEnding command ending.Usage source sink = ⊥
+
+-- a command ended so: what it wrote, what it left of the file, and which faults were counted
+pub record Ends (command : Command) (ending : Ending) (source : SourceChange) (sink : SinkChange) : Type 0 where
+  pub explains : ExplainsEnding command ending source sink
+  pub left : IfSome source.left (λ bytes. Leaves command (status_of ending) bytes source.left_now)
+  pub reads : source.faults_now ≡ failed_reads_at ending source.faults
+  pub writes : sink.faults_now ≡ failed_writes_at ending sink.faults
+
+-- it ended so, and nothing was read or written
+abbrev pub EndsUntouched : Ending → SourceChange → SinkChange → Ending → Type 0
+EndsUntouched wanted source sink end = (end ≡ wanted) × source.unread × sink.untouched
+
+-- what was done, by the command that was asked for; words that are refused ask for none
+abbrev pub Does : Option Command → SourceChange → SinkChange → Ending → Type 0
+Does None source sink end = EndsUntouched ending.Usage source sink end
+Does (Some command) source sink end = Ends command end source sink
+
+-- the same of the arguments of a process, where there may be no memory to take them as words
+abbrev pub DoesOrLacks : Option Command → SourceChange → SinkChange → Ending → Type 0
+DoesOrLacks asked source sink end = Does asked source sink end ⊎ EndsUntouched ending.Memory source sink end
 
 -- the statuses that may come of a command, or of words that are none
 abbrev pub MayCome : Option Command → Status → Type 0
@@ -62,18 +113,26 @@ MayCome asked status.Unsupported = IsSomeAnd asked Encodes
 MayCome asked status.BadStream = asked ≡ Some Check
 MayCome asked status.ReadFault = IsSomeAnd asked (λ command. ⊤)
 MayCome asked status.WriteFault = IsSomeAnd asked (λ command. ⊤)
-MayCome asked status.Memory = IsSomeAnd asked (λ command. ⊤)
+MayCome asked status.Memory = IsSomeAnd asked Encodes
 
--- where an ending is that the input is refused, the fault is the file's own
-abbrev pub IsNamed : Ending → List ℕ → Type 0
-IsNamed (ending.Refused why) bytes = wav_of bytes ≡ Err why
-IsNamed (ending.Deviates why) bytes = deviation_in bytes ≡ Some why
-IsNamed other bytes = ⊤
+-- what notes are told of an ending: a front of its text, the whole of it where their count was
+-- steady
+pub record AreTold (ending : Ending) (notes : SinkChange) : Type 0 where
+  pub front : TakesPrefix notes.taken notes.taken_now (text_of ending)
+  pub whole : IsSteady notes.faults notes.faults_now → Takes notes.taken notes.taken_now (text_of ending)
 
--- notes took a front of the text of an ending of this status, the whole of it where their count was steady
-pub record IsNoted (result : Option Status) (left : Option (List ℕ)) (steady : Type 0) (old new : List ℕ → Type 0) : Type 0 where
+-- a run ended so: what was done by that ending, and what notes were told of it
+pub record HasRun (Did : Ending → Type 0) (result : Status) (notes : SinkChange) : Type 0 where
   pub ending : Ending
-  pub status : result ≡ Some (status_of ending)
-  pub fault : IfSome left (IsNamed ending)
-  pub front : TakesPrefix old new (text_of ending)
-  pub whole : steady → Takes old new (text_of ending)
+  pub status : result ≡ status_of ending
+  pub did : Did ending
+  pub told : AreTold ending notes
+
+-- the exit status of a process is that of a run
+abbrev pub HasExited : (Ending → Type 0) → ℕ → SinkChange → Type 0
+HasExited Did code notes = (status : Status) × (code ≡ exit_number status) × HasRun Did status notes
+
+-- how a run ends whose arguments could not be had
+abbrev pub ending_without : NoWords → Ending
+ending_without no_words.NotText = ending.Usage
+ending_without no_words.Memory = ending.Memory

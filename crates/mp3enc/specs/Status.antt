@@ -10,15 +10,15 @@ use Rattle.mp3enc.specs.declared.ending.Ending.{Ending}
 use Rattle.mp3enc.specs.declared.ending.Ending.TheVariants as ending
 
 -- the exit status
-abbrev pub number_of : Status → ℕ
-number_of status.Ok = 0
-number_of status.Memory = 1
-number_of status.Usage = 2
-number_of status.BadWav = 3
-number_of status.Unsupported = 4
-number_of status.ReadFault = 5
-number_of status.WriteFault = 6
-number_of status.BadStream = 7
+abbrev pub exit_number : Status → ℕ
+exit_number status.Ok = 0
+exit_number status.Memory = 1
+exit_number status.Usage = 2
+exit_number status.BadWav = 3
+exit_number status.Unsupported = 4
+exit_number status.ReadFault = 5
+exit_number status.WriteFault = 6
+exit_number status.BadStream = 7
 
 -- the status of a head that is refused: no WAV file, or one of a form that is never encoded
 abbrev pub refusal_of : WavFault → Status
@@ -74,21 +74,21 @@ name_of stream.Memory = codes "Memory"
 name_of (stream.TooLong at) = codes "TooLong"
 
 -- its place: a byte of the file, or a bit of the tape; a failed read and want of memory have none
-abbrev pub place_of : StreamFault → ℕ
-place_of (stream.BadHeader at) = at
-place_of (stream.ShortFrame at) = at
-place_of (stream.BadSide at) = at
-place_of (stream.BadBegin at) = at
-place_of (stream.BadCode at) = at
-place_of (stream.WrongLength at) = at
-place_of (stream.NotZero at) = at
-place_of stream.Read = 0
-place_of stream.Memory = 0
-place_of (stream.TooLong at) = at
+abbrev pub fault_place : StreamFault → ℕ
+fault_place (stream.BadHeader at) = at
+fault_place (stream.ShortFrame at) = at
+fault_place (stream.BadSide at) = at
+fault_place (stream.BadBegin at) = at
+fault_place (stream.BadCode at) = at
+fault_place (stream.WrongLength at) = at
+fault_place (stream.NotZero at) = at
+fault_place stream.Read = 0
+fault_place stream.Memory = 0
+fault_place (stream.TooLong at) = at
 
 -- the line of a stream that deviates
 abbrev pub deviation_text : StreamFault → List ℕ
-deviation_text fault = codes "mp3enc: stream: " ++ name_of fault ++ codes " at " ++ decimal (place_of fault) ++ 10 ∷ []
+deviation_text fault = codes "mp3enc: stream: " ++ name_of fault ++ codes " at " ++ decimal (fault_place fault) ++ 10 ∷ []
 
 -- what notes are told
 abbrev pub text_of : Ending → List ℕ

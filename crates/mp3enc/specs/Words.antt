@@ -1,8 +1,9 @@
 -- The words of the command line that are taken, and what they ask for.
-use Rattle.std.specs.Prelude.{List, ℕ, ◌+◌, ◌-◌, ◌*◌, ◌==◌, ◌&&◌, Bool, [], ◌∷◌, Option, Some, None, length, fold, find, nat_le, codes, if◌then◌else◌}
+use Rattle.std.specs.Prelude.{List, ℕ, ◌+◌, ◌-◌, ◌*◌, ◌==◌, ◌&&◌, Bool, [], ◌∷◌, Option, Some, None, length, fold, find, nat_le, codes, map, if◌then◌else◌}
 use Rattle.std.specs.List.{list_all}
 use Rattle.std.specs.Char.{is_ascii_digit}
 use Rattle.std.specs.Str.{bytes_eq}
+use Rattle.std.specs.Borrow.{Bor}
 use Rattle.l3_base.specs.declared.rate.Rate.{Rate}
 use Rattle.l3_base.specs.declared.rate.Rate.TheVariants.{K32, K40, K48, K56, K64, K80, K96, K112, K128, K160, K192, K224, K256, K320}
 use Rattle.l3_base.specs.Rates.{kbits_of}
@@ -47,3 +48,7 @@ abbrev pub command_of : List (List ℕ) → Option Command
 command_of (word ∷ []) = command_of_word word
 command_of (word ∷ option ∷ number ∷ []) = if bytes_eq word (codes "encode") && bytes_eq option (codes "--rate") then encode_at (rate_of_word number) else None
 command_of words = None
+
+-- the command that words ask for; nothing where they are refused
+abbrev pub asked : List (Bor (List ℕ)) → Option Command
+asked words = command_of (map (λ word. word.now) words)

@@ -1,95 +1,78 @@
 //! Whether a stream can be read whole, and the line that says what was read.
 
-ghost use Rattle.std.specs.Prelude.{◌≡◌, ◌≤◌, ◌<◌, ◌^◌, length};
-ghost use Rattle.l3_io.specs.Causes.{Rose};
-ghost use Rattle.l3_stream.specs.Units.{lengths};
-ghost use Rattle.mp3enc.specs.Check.{BitsAreCodeBits, bits_of_frame, bits_in, line_of};
-ghost use Rattle.mp3enc.specs.Program.{Explains};
+ghost use Rattle.std.specs.Prelude.{◌≡◌, ◌≢◌, ◌≤◌, ◌*◌, ◌^◌, Err, IfErr, IfOk, IfSome, OnOk, Some, []};
+ghost use Rattle.l3_encoder.specs.Changes.{sink_change, source_change};
+ghost use Rattle.l3_io.specs.Causes.{count_after};
+ghost use Rattle.l3_reader.specs.InTurn.{HasStopped};
+ghost use Rattle.mp3enc.specs.Check.{AddsUp, deviation_in, frames_limit, line_with};
+ghost use Rattle.mp3enc.specs.Program.{Ends};
 ghost use Rattle.mp3enc.specs.declared.words.Command.TheVariants as command;
 
 use crate::ending::Ending;
 use arrayvec::ArrayString;
 use itoa::Buffer;
 use l3_io::{Sink, Source, write_all};
-use l3_reader::{StreamFault, read_stream};
-use l3_stream::{ChosenFrame, Unit};
-use std::alloc::Global;
+use l3_reader::{FrameReader, StreamFault};
 
-// The most frames that a stream may have: the most that can be read, nine times those of the longest WAV file.
+// The most frames that a stream may have: the most that can be read, nine times those of the
+// longest WAV file.
 const FRAMES_LIMIT: u32 = 16777216;
 
-// part2_3_length, which is a number of 16 bits here.
-fn length(unit: &Unit) -> u64
-    ensures value { result ≡ unit.now.length }
-    ensures limit { result < 2 ^ 16 }
-{
-    u64::from(unit.length)
+// What the frames of a stream add up to.
+#[derive(Clone, Copy)]
+struct Totals {
+    // how many frames there are
+    frames: u32,
+    // the sum of part2_3_length of their units
+    bits: u64,
 }
 
-// The sum of part2_3_length of a granule's units.
-fn granule_bits(units: &[Unit; 2]) -> u64
-    ensures value { result ≡ lengths units.now }
-    ensures limit { result ≤ 2 ^ 17 }
+// Reads the stream of a source to its end, and adds up its frames as they come.
+fn read_totals<S: Source>(source: &mut S) -> Result<Totals, StreamFault>
+    ensures totals { IfOk result (λ totals. IfSome (S.left source.old) (AddsUp totals)) }
+    ensures rest { OnOk result (IfSome (S.left source.old) (λ _. S.left source.new ≡ Some [])) }
+    ensures deviation { IfErr result (λ fault. fault ≢ StreamFault.Read
+        → IfSome (S.left source.old) (λ bytes. deviation_in bytes ≡ Some fault)) }
+    ensures stopped { IfErr result (λ fault. IfSome (S.left source.old) (λ bytes.
+        HasStopped frames_limit bytes fault (S.left source.new))) }
+    ensures memory { result ≢ Err StreamFault.Memory }
+    ensures read { result ≡ Err StreamFault.Read → S.faults source.new ≡ count_after (S.faults source.old) }
+    ensures steady { result ≢ Err StreamFault.Read → S.faults source.new ≡ S.faults source.old }
 {
-    length(&units[0]) + length(&units[1])
-}
-
-// The sum of part2_3_length of a frame's four units. In mono those of the second channel are blank, of length 0.
-fn frame_bits(frame: &ChosenFrame) -> u64
-    ensures value { result ≡ bits_of_frame frame.now }
-    ensures limit { result ≤ 2 ^ 18 }
-{
-    granule_bits(&frame.units[0]) + granule_bits(&frame.units[1])
-}
-
-// The sum of part2_3_length of all units of frames.
-fn bits(frames: &[ChosenFrame]) -> u64
-    requires { length frames.now ≤ 16777216 }
-    ensures { result ≡ bits_in frames.now }
-{
-    let mut bits = 0;
-    for frame in frames {
-        bits += frame_bits(frame);
+    let mut reader = FrameReader::new(FRAMES_LIMIT);
+    let mut totals = Totals { frames: 0, bits: 0 };
+    while let Some(frame) = reader.next(source)? {
+        totals.frames += 1;
+        totals.bits += frame.main_data_length();
     }
-    bits
+    Ok(totals)
 }
 
-// The line of a stream of these frames.
-fn line(frames: &[ChosenFrame]) -> ArrayString<64>
-    requires { length frames.now ≤ 16777216 }
-    ensures { result.bytes ≡ line_of frames.now }
+// The line of a stream that adds up to this.
+fn line(totals: &Totals) -> ArrayString<64>
+    ensures { result.bytes ≡ line_with totals.now.frames totals.now.bits }
 {
     let mut digits = Buffer::new();
     let mut line = ArrayString::new();
     line.push_str("frames ");
-    line.push_str(digits.format(frames.len()));
+    line.push_str(digits.format(totals.frames));
     line.push_str(" bits ");
-    line.push_str(digits.format(bits(frames)));
+    line.push_str(digits.format(totals.bits));
     line.push_str("\n");
     line
 }
 
-/// What `check` adds up are the bits of the codes.
-pub fn bits_are_code_bits()
-    ensures { BitsAreCodeBits }
-{}
-
-/// Reads the stream of a source to its end, and then gives its line to a sink.
-pub fn check<S: Source, K: Sink>(alloc: Global, source: &mut S, sink: &mut K) -> Ending
-    ensures { Explains command.Check result (Rose (S.faults source.old) (S.faults source.new)) (Rose (K.faults sink.old) (K.faults sink.new))
-        (sink.new ≡ sink.old) (S.left source.old) (S.left source.new) (K.taken sink.old) (K.taken sink.new) }
+/// Reads the stream of a source to its end, and then gives its line to a sink. It keeps no frame.
+pub fn check<S: Source, K: Sink>(source: &mut S, sink: &mut K) -> Ending
+    ensures { Ends command.Check result (source_change S.left S.faults source.old source.new)
+        (sink_change K.taken K.faults sink.old sink.new) }
 {
-    let stream = match read_stream(alloc, FRAMES_LIMIT, source) {
-        Ok(stream) => stream,
-        Err(fault) => {
-            return match fault {
-                StreamFault::Read => Ending::ReadFault,
-                StreamFault::Memory => Ending::Memory,
-                deviation => Ending::Deviates(deviation),
-            };
-        },
+    let totals = match read_totals(source) {
+        Ok(totals) => totals,
+        Err(StreamFault::Read) => return Ending::ReadFault,
+        Err(deviation) => return Ending::Deviates(deviation),
     };
-    match write_all(sink, line(&stream.frames).as_bytes()) {
+    match write_all(sink, line(&totals).as_bytes()) {
         Ok(()) => Ending::Done,
         Err(_) => Ending::WriteFault,
     }

@@ -1,9 +1,12 @@
 ghost use Rattle.std.specs.Prelude.{◌≡◌, ◌≤◌, length};
-ghost use Rattle.mp3enc.specs.Status.{refusal_of, refusal_text, name_of, place_of, deviation_text};
+ghost use Rattle.l3_encoder.specs.Changes.{sink_change};
+ghost use Rattle.mp3enc.specs.Program.{AreTold};
+ghost use Rattle.mp3enc.specs.Status.{refusal_of, refusal_text, name_of, fault_place, deviation_text, status_of};
 
 use crate::status::Status;
 use arrayvec::ArrayString;
 use itoa::Buffer;
+use l3_io::{Sink, write_all};
 use l3_reader::StreamFault;
 use l3_wav::WavFault;
 
@@ -16,7 +19,8 @@ pub enum Ending {
     Usage,
     /// The head of the WAV file is refused.
     Refused(WavFault),
-    /// The stream is none of this encoder's, by its first deviation; neither a failed read nor want of memory.
+    /// The stream is none of this encoder's, by its first deviation; neither a failed read nor want
+    /// of memory.
     Deviates(StreamFault),
     /// A read failed.
     ReadFault,
@@ -59,6 +63,16 @@ impl Ending {
             Ending::Memory => text("mp3enc: out of memory\n"),
         }
     }
+}
+
+/// Tells notes the text of an ending, and gives its status. What notes do not take is lost.
+pub fn tell<N: Sink>(notes: &mut N, ending: Ending) -> Status
+    ensures status { result ≡ status_of ending }
+    ensures told { AreTold ending (sink_change N.taken N.faults notes.old notes.new) }
+{
+    // A fault of notes changes nothing: the clause says what they took.
+    let _ = write_all(notes, ending.text().as_bytes());
+    ending.status()
 }
 
 // A text of at most 64 bytes.
@@ -129,7 +143,7 @@ fn name(fault: StreamFault) -> &'static str
 
 // The byte of the file or the bit of the tape at which it is.
 fn place(fault: StreamFault) -> u64
-    ensures { result ≡ place_of fault }
+    ensures { result ≡ fault_place fault }
 {
     match fault {
         StreamFault::BadHeader(at)

@@ -1,6 +1,7 @@
 //! The stream of an impulse at 128 kbit/s, from a program that shares nothing with this one.
 
-/// The bytes from place 13 to place 611: all that are not 0 but for the first header and the front of the last frame.
+/// The bytes from place 13 to place 611: all that are not 0 but for the first header and the front
+/// of the last frame.
 pub fn middle() -> &'static [u8] {
     &[
         0x02, 0xF4, 0xC8, 0x2A, 0x40, 0x33, 0x18, 0x00, 0x78, 0x62, 0x19, 0x64, 0xD3, 0x62, 0x64,

@@ -1,20 +1,21 @@
-ghost use Rattle.std.specs.Prelude.{◌≡◌, ◌↔◌, ◌⊎◌, ◌<◌, ◌≢◌, map, Some, None, Err, IfSome, IsSome, IsSomeAnd};
-ghost use Rattle.l3_io.specs.Causes.{Rose, IsSteady};
+ghost use Rattle.std.specs.Prelude.{◌≡◌, ◌↔◌, ◌⊎◌, ◌<◌, ◌≢◌, Some, None, Err, IfSome, IsSome, IsSomeAnd};
+ghost use Rattle.l3_encoder.specs.Changes.{source_change, sink_change};
+ghost use Rattle.l3_io.specs.Causes.{IsSteady, count_after};
 ghost use Rattle.l3_io.specs.Taken.{Takes, TakesPrefix};
 ghost use Rattle.l3_wav.specs.declared.fault.WavFault.{WavFault};
 ghost use Rattle.l3_wav.specs.Wav.{wav_of};
 ghost use Rattle.mp3enc.specs.Check.{deviation_in};
-ghost use Rattle.mp3enc.specs.Program.{Encodes, Explains, MayCome, IsRefused, IsNoted, output_of, rest_of};
+ghost use Rattle.mp3enc.specs.Program.{Does, Encodes, Ends, HasRun, IsRefused, Leaves, MayCome, output_of};
 ghost use Rattle.mp3enc.specs.Status.{refusal_of};
-ghost use Rattle.mp3enc.specs.Words.{command_of};
+ghost use Rattle.mp3enc.specs.Words.{asked};
 
 use crate::check::check;
-use crate::ending::Ending;
+use crate::ending::{Ending, tell};
 use crate::status::Status;
 use crate::words::{Command, command_asked};
 use l3_base::{Rate, Steps};
 use l3_encoder::{EncodeFault, encode_alone};
-use l3_io::{Sink, Source, write_all};
+use l3_io::{Sink, Source};
 use std::alloc::Global;
 use std::marker::Brand;
 use std::sync::ledger::{Blank, Ledger};
@@ -30,8 +31,8 @@ fn encode<S: Source, K: Sink, L: Ledger + Send>(
     requires name { blank.name ≡ L.name }
     requires parts { blank.parts ≡ L.parts }
     requires some { 0 < blank.parts }
-    ensures { Explains (Command.Encode rate) result (Rose (S.faults source.old) (S.faults source.new)) (Rose (K.faults sink.old) (K.faults sink.new))
-        (sink.new ≡ sink.old) (S.left source.old) (S.left source.new) (K.taken sink.old) (K.taken sink.new) }
+    ensures { Ends (Command.Encode rate) result (source_change S.left S.faults source.old source.new)
+        (sink_change K.taken K.faults sink.old sink.new) }
 {
     let mut steps: Steps<L> = Steps::start(blank);
     match encode_alone(alloc, rate, source, sink, &mut steps) {
@@ -50,27 +51,25 @@ fn outcome<S: Source, K: Sink>(
     source: &mut S,
     sink: &mut K,
 ) -> Ending
-    ensures usage { (result ≡ Ending.Usage) ↔ (command_of (map (λ word. word.now) words.now) ≡ None) }
-    ensures untouched { result ≡ Ending.Usage → (source.new ≡ source.old) × (sink.new ≡ sink.old) }
-    ensures others { IfSome (command_of (map (λ word. word.now) words.now)) (λ command.
-        Explains command result (Rose (S.faults source.old) (S.faults source.new)) (Rose (K.faults sink.old) (K.faults sink.new))
-        (sink.new ≡ sink.old) (S.left source.old) (S.left source.new) (K.taken sink.old) (K.taken sink.new)) }
+    ensures { Does (asked words.now) (source_change S.left S.faults source.old source.new)
+        (sink_change K.taken K.faults sink.old sink.new) result }
 {
     match command_asked(words) {
         None => Ending::Usage,
         Some(Command::Encode(rate)) => {
             encode::<S, K, Brand>(alloc, rate, source, sink, Blank::new(1))
         },
-        Some(Command::Check) => check(alloc, source, sink),
+        Some(Command::Check) => check(source, sink),
     }
 }
 
 /// Does what the words of the command line say, and tells notes how it ended. It always answers.
 ///
-/// `encode`, which asks for 128 kbit/s, and `encode --rate R` read the WAV file of the source whole, and then write its stream at
-/// that rate. `check` reads a stream of at most 16777216 frames whole, and then writes one line, `frames F bits B`: how many frames
-/// there are, and the sum of their units' part2_3_length. Where the input is refused, a read fails or there is no memory, nothing
-/// is written.
+/// `encode`, which asks for 128 kbit/s, and `encode --rate R` read the WAV file of the source
+/// whole, and then write its stream at that rate. `check` reads a stream of at most 16777216 frames
+/// whole, in memory that does not grow, and then writes one line, `frames F bits B`: how many
+/// frames there are, and the sum of their units' part2_3_length. Where the input is refused, a read
+/// fails or there is no memory, nothing is written.
 pub fn run_alone<S: Source, K: Sink, N: Sink>(
     alloc: Global,
     words: &[&str],
@@ -78,47 +77,59 @@ pub fn run_alone<S: Source, K: Sink, N: Sink>(
     sink: &mut K,
     notes: &mut N,
 ) -> Option<Status>
-    ensures answered { IsSomeAnd result (MayCome (command_of (map (λ word. word.now) words.now))) }
-    ensures usage { (result ≡ Some Status.Usage) ↔ (command_of (map (λ word. word.now) words.now) ≡ None) }
+    ensures answered { IsSomeAnd result (MayCome (asked words.now)) }
+    ensures usage { (result ≡ Some Status.Usage) ↔ (asked words.now ≡ None) }
     ensures usage_unread { result ≡ Some Status.Usage → source.new ≡ source.old }
 
-    // `encode`: a head is refused only where the file's own is, and wherever it is, if no read failed.
+    // `encode`: a head is refused only where the file's own is, and wherever it is, if no read
+    // failed.
     ensures bad_wav_only { result ≡ Some Status.BadWav → IfSome (S.left source.old) (IsRefused Status.BadWav) }
-    ensures unsupported_only { result ≡ Some Status.Unsupported → IfSome (S.left source.old) (IsRefused Status.Unsupported) }
-    ensures refused { IsSomeAnd (command_of (map (λ word. word.now) words.now)) Encodes → IsSteady (S.faults source.old) (S.faults source.new)
+    ensures unsupported_only { result ≡ Some Status.Unsupported
+        → IfSome (S.left source.old) (IsRefused Status.Unsupported) }
+    ensures refused { IsSomeAnd (asked words.now) Encodes → IsSteady (S.faults source.old) (S.faults source.new)
         → IfSome (S.left source.old) (λ bytes. (why : WavFault) → wav_of bytes ≡ Err why → result ≡ Some (refusal_of why)) }
 
-    // `check`: a stream is refused only where it deviates, and wherever it does, if no read failed and there is memory.
-    ensures bad_stream_only { result ≡ Some Status.BadStream → IfSome (S.left source.old) (λ bytes. IsSome (deviation_in bytes)) }
-    ensures deviates { command_of (map (λ word. word.now) words.now) ≡ Some Command.Check → IsSteady (S.faults source.old) (S.faults source.new)
-        → IfSome (S.left source.old) (λ bytes. IsSome (deviation_in bytes)
-        → (result ≡ Some Status.BadStream) ⊎ (result ≡ Some Status.Memory)) }
+    // `check`: a stream is refused only where it deviates, and wherever it does, if no read failed.
+    ensures bad_stream_only { result ≡ Some Status.BadStream
+        → IfSome (S.left source.old) (λ bytes. IsSome (deviation_in bytes)) }
+    ensures deviates { asked words.now ≡ Some Command.Check → IsSteady (S.faults source.old) (S.faults source.new)
+        → IfSome (S.left source.old) (λ bytes. IsSome (deviation_in bytes) → result ≡ Some Status.BadStream) }
 
-    // Of the encoding at the rate of the words, or of the line of the stream, a front is written, the whole of it at success. Then
-    // what follows the data is left, or nothing. At any other status than these two nothing is written.
-    ensures written { IfSome (command_of (map (λ word. word.now) words.now)) (λ command. IfSome (S.left source.old) (λ bytes.
+    // Of the encoding at the rate of the words, or of the line of the stream, a front is written,
+    // the whole of it at success. At any other status than these two nothing is written.
+    ensures written { IfSome (asked words.now) (λ command. IfSome (S.left source.old) (λ bytes.
         IfSome (output_of command bytes) (λ output. TakesPrefix (K.taken sink.old) (K.taken sink.new) output))) }
-    ensures whole { result ≡ Some Status.Ok → IsSomeAnd (command_of (map (λ word. word.now) words.now)) (λ command.
-        IfSome (S.left source.old) (λ bytes. IsSomeAnd (output_of command bytes)
-        (λ output. Takes (K.taken sink.old) (K.taken sink.new) output))) }
-    ensures rest { result ≡ Some Status.Ok → IsSomeAnd (command_of (map (λ word. word.now) words.now)) (λ command.
-        IfSome (S.left source.old) (λ bytes. S.left source.new ≡ Some (rest_of command bytes))) }
+    ensures whole { result ≡ Some Status.Ok → IsSomeAnd (asked words.now) (λ command. IfSome (S.left source.old) (λ bytes.
+        IsSomeAnd (output_of command bytes) (λ output. Takes (K.taken sink.old) (K.taken sink.new) output))) }
     ensures untouched { result ≢ Some Status.Ok → result ≢ Some Status.WriteFault → sink.new ≡ sink.old }
-    ensures refused_untouched { IfSome (command_of (map (λ word. word.now) words.now)) (λ command.
-        IfSome (S.left source.old) (λ bytes. output_of command bytes ≡ None → sink.new ≡ sink.old)) }
+    ensures refused_untouched { IfSome (asked words.now) (λ command. IfSome (S.left source.old) (λ bytes.
+        output_of command bytes ≡ None → sink.new ≡ sink.old)) }
 
-    // A fault has its cause. Without faults an accepted file is encoded, and a stream with no deviation has its line written, or
-    // there is no memory.
-    ensures cause_read { result ≡ Some Status.ReadFault → Rose (S.faults source.old) (S.faults source.new) }
-    ensures cause_write { result ≡ Some Status.WriteFault → Rose (K.faults sink.old) (K.faults sink.new) }
-    ensures complete { IsSteady (S.faults source.old) (S.faults source.new) → IsSteady (K.faults sink.old) (K.faults sink.new)
-        → IfSome (command_of (map (λ word. word.now) words.now)) (λ command. IfSome (S.left source.old) (λ bytes.
-        IsSome (output_of command bytes) → (result ≡ Some Status.Ok) ⊎ (result ≡ Some Status.Memory))) }
+    // What is left of the input: what follows the data, or the bytes that refuse a head, or the
+    // frame at which a stream deviates; where a read failed or memory ran out no less than that.
+    ensures left { IsSomeAnd result (λ status. IfSome (asked words.now) (λ command. IfSome (S.left source.old) (λ bytes.
+        Leaves command status bytes (S.left source.new)))) }
 
-    // Notes take a front of the status's text, the whole of it where their count did not rise.
-    ensures notes { IsNoted result (S.left source.old) (IsSteady (N.faults notes.old) (N.faults notes.new)) (N.taken notes.old) (N.taken notes.new) }
+    // A fault has its cause, and a cause is told: where a read failed the answer is a read fault,
+    // and where a write failed a write fault.
+    ensures cause_read { result ≡ Some Status.ReadFault → S.faults source.new ≡ count_after (S.faults source.old) }
+    ensures cause_write { result ≡ Some Status.WriteFault → K.faults sink.new ≡ count_after (K.faults sink.old) }
+    ensures steady_read { result ≢ Some Status.ReadFault → S.faults source.new ≡ S.faults source.old }
+    ensures steady_write { result ≢ Some Status.WriteFault → K.faults sink.new ≡ K.faults sink.old }
+
+    // Without faults an accepted file is encoded, or there is no memory, and a stream with no
+    // deviation has its line written.
+    ensures complete { IsSteady (S.faults source.old) (S.faults source.new)
+        → IsSteady (K.faults sink.old) (K.faults sink.new)
+        → IfSome (asked words.now) (λ command. IfSome (S.left source.old) (λ bytes. IsSome (output_of command bytes)
+        → (result ≡ Some Status.Ok) ⊎ ((result ≡ Some Status.Memory) × Encodes command))) }
+
+    // All of this is of one ending, and notes take a front of its text, the whole of it where their
+    // count did not rise.
+    ensures notes { IsSomeAnd result (λ status. HasRun (Does (asked words.now)
+        (source_change S.left S.faults source.old source.new) (sink_change K.taken K.faults sink.old sink.new))
+        status (sink_change N.taken N.faults notes.old notes.new)) }
 {
     let ending = outcome(alloc, words, source, sink);
-    let _ = write_all(notes, ending.text().as_bytes());
-    Some(ending.status())
+    Some(tell(notes, ending))
 }

@@ -1,4 +1,5 @@
-//! A wave of one channel at 32000 Hz, and its stream at 32 kbit/s, both from a program that shares nothing with this one.
+//! A wave of one channel at 32000 Hz, and its stream at 32 kbit/s, both from a program that shares
+//! nothing with this one.
 
 /// One period of the wave, 400 samples.
 pub fn period() -> &'static [i16] {

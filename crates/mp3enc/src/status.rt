@@ -21,11 +21,11 @@ pub enum Status {
 
 impl Status {
     ghost use Rattle.std.specs.Prelude.{◌≡◌};
-    ghost use Rattle.mp3enc.specs.Status.{number_of};
+    ghost use Rattle.mp3enc.specs.Status.{exit_number};
 
     /// The exit status.
     pub fn number(self) -> u8
-        ensures { result ≡ number_of self }
+        ensures { result ≡ exit_number self }
     {
         self as u8
     }

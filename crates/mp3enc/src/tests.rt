@@ -1,8 +1,10 @@
 use crate::impulse::middle;
+use crate::process::{NoWords, start};
 use crate::sine::{period, stream};
 use crate::{Status, run_alone};
-use l3_io::{MemSink, MemSource, Source};
+use l3_io::{MemSink, MemSource, read_full};
 use std::alloc::{AllocError, Global};
+use std::process::ExitCode;
 use std::test::Fail;
 
 // The head of a file of one channel at 44100 Hz, with no samples.
@@ -13,7 +15,8 @@ const HEAD: [u8; 44] =
 const FROM_A_PIPE: &[u8] =
     b"RIFF\xFF\xFF\xFF\xFFWAVEfmt \x10\0\0\0\x01\0\x02\0\x44\xAC\0\0\x10\xB1\x02\0\x04\0\x10\0LIST\x1A\0\0\0INFOISFT\x0E\0\0\0Lavf59.27.100\0data\xFF\xFF\xFF\xFF";
 
-// The same with another number of channels, other low bytes of the sampling frequency and so many bytes of samples.
+// The same with another number of channels, other low bytes of the sampling frequency and so many
+// bytes of samples.
 fn head(channels: u8, hertz: [u8; 2], size: u32) -> [u8; 44] {
     let mut head = HEAD;
     head[22] = channels;
@@ -33,7 +36,8 @@ fn zeros(alloc: Global, channels: u8, hertz: [u8; 2], values: u16) -> Result<Vec
     Ok(bytes)
 }
 
-// The stream of one zero sample: one channel, 44100 Hz, 128 kbit/s; main_data_begin of the second frame is 396.
+// The stream of one zero sample: one channel, 44100 Hz, 128 kbit/s; main_data_begin of the second
+// frame is 396.
 fn zero_sample() -> [u8; 835] {
     let mut stream = [0; 835];
     stream[..4].copy_from_slice(&[0xFF, 0xFB, 0x90, 0xC0]);
@@ -55,6 +59,12 @@ fn run(
     let mut notes = MemSink::new(alloc, 100, 7, &[])?;
     let status = run_alone(alloc, words, &mut source, &mut sink, &mut notes);
     Ok((status, sink, notes, source))
+}
+
+// How many bytes a source of at most 5000 has left.
+fn left(source: &mut MemSource) -> Option<usize> {
+    let mut rest = [0; 5000];
+    read_full(source, &mut rest).ok()
 }
 
 #[test]
@@ -191,63 +201,73 @@ fn ten_seconds_from_a_pipe(rt: HostRuntime) -> Result<(), Fail> {
 
 #[test]
 fn refused_heads(rt: HostRuntime) -> Result<(), Fail> {
-    // With this byte of the head changed to this one, the status and what notes are told.
-    for (at, byte, status, text) in [
+    // With this byte of the head changed to this one, the status, what notes are told and how many
+    // bytes are left.
+    for (at, byte, status, text, rest) in [
         (
             3,
             b'X',
             Status::BadWav,
             b"mp3enc: wav: NotRiff\n".as_slice(),
+            32,
         ),
         (
             12,
             b'x',
             Status::BadWav,
             b"mp3enc: wav: NoFmtBeforeData\n".as_slice(),
+            0,
         ),
         (
             18,
             0x10,
             Status::BadWav,
             b"mp3enc: wav: HeaderTooLong\n".as_slice(),
+            24,
         ),
         (
             20,
             2,
             Status::Unsupported,
             b"mp3enc: wav: UnsupportedFormat\n".as_slice(),
+            8,
         ),
         (
             22,
             3,
             Status::Unsupported,
             b"mp3enc: wav: UnsupportedChannels\n".as_slice(),
+            8,
         ),
         (
             24,
             0x45,
             Status::Unsupported,
             b"mp3enc: wav: UnsupportedRate\n".as_slice(),
+            8,
         ),
         (
             34,
             8,
             Status::Unsupported,
             b"mp3enc: wav: UnsupportedDepth\n".as_slice(),
+            8,
         ),
         (
             32,
             4,
             Status::BadWav,
             b"mp3enc: wav: BadBlockAlign\n".as_slice(),
+            8,
         ),
     ] {
         let mut head = HEAD;
         head[at] = byte;
-        let (answer, sink, notes, _) = run(&rt, &["encode"], &head, 10000, &[])?;
+        let (answer, sink, notes, mut source) = run(&rt, &["encode"], &head, 10000, &[])?;
         assert_eq!(rt; answer, Some(status));
         assert_eq!(rt; sink.bytes().len(), 0);
         assert_eq!(rt; notes.bytes(), text);
+        assert_eq!(rt; left(&mut source), Some(rest));
     }
     Ok(())
 }
@@ -255,10 +275,12 @@ fn refused_heads(rt: HostRuntime) -> Result<(), Fail> {
 #[test]
 fn read_fails_in_the_data(rt: HostRuntime) -> Result<(), Fail> {
     let bytes = zeros(rt.alloc(), 2, [0x44, 0xAC], 2304)?;
-    let (status, sink, notes, _) = run(&rt, &["encode"], bytes.as_slice(), 10000, &[2])?;
+    let (status, sink, notes, mut source) = run(&rt, &["encode"], bytes.as_slice(), 10000, &[2])?;
     assert_eq!(rt; status, Some(Status::ReadFault));
     assert_eq!(rt; sink.bytes().len(), 0);
     assert_eq!(rt; notes.bytes(), b"mp3enc: read fault\n".as_slice());
+    // The third read is that of the 16 bytes of the format.
+    assert_eq!(rt; left(&mut source), Some(4652 - 20));
     Ok(())
 }
 
@@ -276,7 +298,8 @@ fn sink_fills_up(rt: HostRuntime) -> Result<(), Fail> {
 
 #[test]
 fn check_of_fronts(rt: HostRuntime) -> Result<(), Fail> {
-    // Of so many bytes of the stream of one zero sample, the status, what is written and what notes are told.
+    // Of so many bytes of the stream of one zero sample, the status, what is written and what notes
+    // are told.
     for (length, status, line, text) in [
         (
             0,
@@ -321,20 +344,38 @@ fn check_of_fronts(rt: HostRuntime) -> Result<(), Fail> {
 
 #[test]
 fn deviations_of_one_zero_sample(rt: HostRuntime) -> Result<(), Fail> {
-    // With this byte of the stream of one zero sample changed to this one, what notes are told.
-    for (at, byte, text) in [
-        (834, 0x01, b"mp3enc: stream: NotZero at 6343\n".as_slice()),
-        (0, 0x00, b"mp3enc: stream: BadHeader at 0\n".as_slice()),
-        (422, 0x80, b"mp3enc: stream: BadBegin at 417\n".as_slice()),
-        (422, 0x40, b"mp3enc: stream: BadSide at 417\n".as_slice()),
-        (7, 0x04, b"mp3enc: stream: BadCode at 0\n".as_slice()),
+    // With this byte of the stream of one zero sample changed to this one, what notes are told and
+    // how many bytes are left.
+    for (at, byte, text, rest) in [
+        (
+            834,
+            0x01,
+            b"mp3enc: stream: NotZero at 6343\n".as_slice(),
+            0,
+        ),
+        (0, 0x00, b"mp3enc: stream: BadHeader at 0\n".as_slice(), 831),
+        (
+            422,
+            0x80,
+            b"mp3enc: stream: BadBegin at 417\n".as_slice(),
+            0,
+        ),
+        (422, 0x40, b"mp3enc: stream: BadSide at 417\n".as_slice(), 0),
+        (7, 0x04, b"mp3enc: stream: BadCode at 0\n".as_slice(), 418),
+        (
+            417,
+            0x00,
+            b"mp3enc: stream: BadHeader at 417\n".as_slice(),
+            414,
+        ),
     ] {
         let mut stream = zero_sample();
         stream[at] = byte;
-        let (answer, sink, notes, _) = run(&rt, &["check"], &stream, 100, &[])?;
+        let (answer, sink, notes, mut source) = run(&rt, &["check"], &stream, 100, &[])?;
         assert_eq!(rt; answer, Some(Status::BadStream));
         assert_eq!(rt; sink.bytes().len(), 0);
         assert_eq!(rt; notes.bytes(), text);
+        assert_eq!(rt; left(&mut source), Some(rest));
     }
     Ok(())
 }
@@ -364,12 +405,11 @@ fn check_with_faults(rt: HostRuntime) -> Result<(), Fail> {
 fn is_refused(rt: &HostRuntime, words: &[&str]) -> Result<bool, AllocError> {
     let (status, sink, notes, mut source) = run(rt, words, &HEAD, 10000, &[])?;
     let usage = b"mp3enc: usage: mp3enc encode, check or demo FRAMES SEED\n";
-    let mut unread = [0; 50];
     Ok(
         status == Some(Status::Usage)
             && sink.bytes().is_empty()
             && notes.bytes() == usage.as_slice()
-            && source.read(&mut unread) == Ok(44),
+            && left(&mut source) == Some(44),
     )
 }
 
@@ -383,5 +423,44 @@ fn words_refused(rt: HostRuntime) -> Result<(), Fail> {
     assert!(rt; is_refused(&rt, &["encode", "--rate", "+128"])?);
     assert!(rt; is_refused(&rt, &["encode", "--rate", "00000000128"])?);
     assert!(rt; is_refused(&rt, &["check", "x"])?);
+    Ok(())
+}
+
+#[test]
+fn arguments_that_are_no_words(rt: HostRuntime) -> Result<(), Fail> {
+    // Why there are none, the exit status and what notes are told.
+    for (why, code, text) in [
+        (
+            NoWords::NotText,
+            2,
+            b"mp3enc: usage: mp3enc encode, check or demo FRAMES SEED\n".as_slice(),
+        ),
+        (NoWords::Memory, 1, b"mp3enc: out of memory\n".as_slice()),
+    ] {
+        let alloc = rt.alloc();
+        let mut source = MemSource::new(alloc, &HEAD, 100, &[])?;
+        let mut sink = MemSink::new(alloc, 100, 300, &[])?;
+        let mut notes = MemSink::new(alloc, 100, 7, &[])?;
+        let answer = start(alloc, Err(why), &mut source, &mut sink, &mut notes);
+        assert_eq!(rt; answer, ExitCode::from(code));
+        assert_eq!(rt; sink.bytes().len(), 0);
+        assert_eq!(rt; notes.bytes(), text);
+        assert_eq!(rt; left(&mut source), Some(44));
+    }
+    Ok(())
+}
+
+#[test]
+fn words_after_the_name(rt: HostRuntime) -> Result<(), Fail> {
+    let alloc = rt.alloc();
+    let mut source = MemSource::new(alloc, &zero_sample(), 100, &[])?;
+    let mut sink = MemSink::new(alloc, 100, 300, &[])?;
+    let mut notes = MemSink::new(alloc, 100, 7, &[])?;
+    let mut arguments = Vec::new(alloc);
+    arguments.push(String::from_str(alloc, "encode")?)?;
+    arguments.push(String::from_str(alloc, "check")?)?;
+    let answer = start(alloc, Ok(arguments), &mut source, &mut sink, &mut notes);
+    assert_eq!(rt; answer, ExitCode::SUCCESS);
+    assert_eq!(rt; sink.bytes(), b"frames 2 bits 0\n".as_slice());
     Ok(())
 }

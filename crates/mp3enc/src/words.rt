@@ -1,7 +1,7 @@
-ghost use Rattle.std.specs.Prelude.{◌≡◌, ◌≤◌, map, length};
+ghost use Rattle.std.specs.Prelude.{◌≡◌, ◌≤◌, length};
 ghost use Rattle.std.specs.Char.{is_ascii_digit};
 ghost use Rattle.std.specs.List.{list_all};
-ghost use Rattle.mp3enc.specs.Words.{number_of_digits, is_number as is_number_word, rate_of, rate_of_word, command_of};
+ghost use Rattle.mp3enc.specs.Words.{number_of_digits, is_number as is_number_word, rate_of, rate_of_word, asked};
 
 use l3_base::Rate;
 
@@ -64,10 +64,11 @@ fn rate_named(word: &str) -> Option<Rate>
 
 /// The command that the words of the command line ask for, or `None` where they are refused.
 ///
-/// Taken are the one word `encode`, which asks for 128 kbit/s, the three words `encode --rate R`, where R is one to ten
-/// decimal digits whose number is one of the fourteen rates, and the one word `check`.
+/// Taken are the one word `encode`, which asks for 128 kbit/s, the three words `encode --rate R`,
+/// where R is one to ten decimal digits whose number is one of the fourteen rates, and the one word
+/// `check`.
 pub fn command_asked(words: &[&str]) -> Option<Command>
-    ensures { result ≡ command_of (map (λ word. word.now) words.now) }
+    ensures { result ≡ asked words.now }
 {
     if words.len() == 1 && words[0] == "encode" {
         return Some(Command::Encode(Rate::K128));

@@ -1,84 +1,84 @@
-use Rattle.std.proofs.Common.{rules, ◌≡◌, map, arith, inl, inr, refl}
-use Rattle.l3_io.specs.Causes.{Rose}
-use Rattle.l3_io.proofs.TakenLemmas.{Writes-prefix}
+use Rattle.std.proofs.Common.{rules, ◌≡◌, ap, inl, inr, refl}
+use Rattle.std.specs.Prelude.{Some}
+use Rattle.l3_encoder.specs.Changes.{SourceChange, SinkChange, source_change, sink_change}
 use Rattle.mp3enc.proofs.StatusLemmas as lemmas
-use Rattle.mp3enc.specs.Status.{text_of}
-use Rattle.mp3enc.specs.Words.{command_of}
+use Rattle.mp3enc.specs.Program.{Does}
+use Rattle.mp3enc.specs.Words.{asked}
 use Rattle.mp3enc.proofs.program.run_alone.Goals as goal
-use Rattle.mp3enc.proofs.program.run_alone.Goals.{After-status}
+use Rattle.mp3enc.proofs.program.run_alone.Goals.{After-tell}
 use Rattle.mp3enc.proofs.program.run_alone.Given.{Over}
 
--- what the ending says
-told : (g : Over) (c : After-status g) → lemmas.Told (g.S.Source.left c.args.source.now) (g.S.Source.left c.outcome-ending.new.source) (g.K.Sink.taken c.args.sink.now) (g.K.Sink.taken c.outcome-ending.new.sink)
-    (Rose (g.S.Source.faults c.args.source.now) (g.S.Source.faults c.outcome-ending.new.source)) (Rose (g.K.Sink.faults c.args.sink.now) (g.K.Sink.faults c.outcome-ending.new.sink))
-    (c.outcome-ending.new.sink ≡ c.args.sink.now) (command_of (map (λ w. w.now) c.args.words.now)) c.outcome-ending.result
-told g c = lemmas.told _ _ _ _ _ _ _ (command_of (map (λ w. w.now) c.args.words.now)) c.outcome-ending.result c.outcome-ending.ensures.usage
-    (λ is. (c.outcome-ending.ensures.untouched is).1) c.outcome-ending.ensures.others
+-- what was done to the source and the sink, and by which ending
+abbrev of_source : (g : Over) (c : After-tell g) → SourceChange
+of_source g c = source_change g.S.Source.left g.S.Source.faults c.args.source.now c.outcome-ending.new.source
+
+abbrev of_sink : (g : Over) (c : After-tell g) → SinkChange
+of_sink g c = sink_change g.K.Sink.taken g.K.Sink.faults c.args.sink.now c.outcome-ending.new.sink
+
+did : (g : Over) (c : After-tell g) → Does (asked c.args.words.now) (of_source g c) (of_sink g c) c.outcome-ending.result
+did g c = c.outcome-ending.ensures
 
 pub returns-clause-answered : goal.returns-clause-answered
-returns-clause-answered g c = rw c.status.ensures (lemmas.may_come _ _ _ _ _ _ _ _ c.outcome-ending.result (told g c))
+returns-clause-answered g c = rw c.tell.ensures.status (lemmas.may_come (of_source g c) (of_sink g c) _ c.outcome-ending.result (did g c))
 
 pub returns-clause-usage : goal.returns-clause-usage
 returns-clause-usage g c = (
-  λ is. c.outcome-ending.ensures.usage.0 (lemmas.usage_is c.outcome-ending.result (rw c.status.ensures at is)),
-  λ none. let is = c.outcome-ending.ensures.usage.1 none in rw (c.status.ensures, is) refl,
+  λ is. lemmas.usage_none (of_source g c) (of_sink g c) _ c.outcome-ending.result (did g c) (lemmas.usage_is c.outcome-ending.result (rw c.tell.ensures.status at is)),
+  λ none. let is = lemmas.none_usage (of_source g c) (of_sink g c) _ c.outcome-ending.result (did g c) none in rw (c.tell.ensures.status, is) refl,
 )
 
 pub returns-clause-usage_unread : goal.returns-clause-usage_unread
-returns-clause-usage_unread g c = λ is. (c.outcome-ending.ensures.untouched (lemmas.usage_is c.outcome-ending.result (rw c.status.ensures at is))).0
+returns-clause-usage_unread g c = λ is. lemmas.usage_unread (of_source g c) (of_sink g c) _ c.outcome-ending.result (did g c) (lemmas.usage_is c.outcome-ending.result (rw c.tell.ensures.status at is))
 
 pub returns-clause-bad_wav_only : goal.returns-clause-bad_wav_only
-returns-clause-bad_wav_only g c = λ is. lemmas.refused_only _ _ _ _ _ _ _ _ _ c.outcome-ending.result (told g c) (rw c.status.ensures at is) (inl refl)
+returns-clause-bad_wav_only g c = λ is. lemmas.refused_only (of_source g c) (of_sink g c) _ _ c.outcome-ending.result (did g c) (rw c.tell.ensures.status at is) (inl refl)
 
 pub returns-clause-unsupported_only : goal.returns-clause-unsupported_only
-returns-clause-unsupported_only g c = λ is. lemmas.refused_only _ _ _ _ _ _ _ _ _ c.outcome-ending.result (told g c) (rw c.status.ensures at is) (inr refl)
+returns-clause-unsupported_only g c = λ is. lemmas.refused_only (of_source g c) (of_sink g c) _ _ c.outcome-ending.result (did g c) (rw c.tell.ensures.status at is) (inr refl)
 
 pub returns-clause-refused : goal.returns-clause-refused
-returns-clause-refused g c = λ encodes steady. rw c.status.ensures (lemmas.refused_there _ _ _ _ _ _ _ _ c.outcome-ending.result (told g c)
-    encodes (λ rose. absurd (omega (arith, steady, rose))))
+returns-clause-refused g c = λ encodes steady. rw c.tell.ensures.status (lemmas.refused_there (of_source g c) (of_sink g c) _ c.outcome-ending.result (did g c) encodes steady)
 
 pub returns-clause-bad_stream_only : goal.returns-clause-bad_stream_only
-returns-clause-bad_stream_only g c = λ is. lemmas.bad_stream_only _ _ _ _ _ _ _ _ c.outcome-ending.result (told g c) (rw c.status.ensures at is)
+returns-clause-bad_stream_only g c = λ is. lemmas.bad_stream_only (of_source g c) (of_sink g c) _ c.outcome-ending.result (did g c) (rw c.tell.ensures.status at is)
 
 pub returns-clause-deviates : goal.returns-clause-deviates
-returns-clause-deviates g c = λ check steady. rw c.status.ensures (lemmas.deviates_there _ _ _ _ _ _ _ _ c.outcome-ending.result (told g c)
-    check (λ rose. absurd (omega (arith, steady, rose))))
+returns-clause-deviates g c = λ check steady. rw c.tell.ensures.status (lemmas.deviates_there (of_source g c) (of_sink g c) _ c.outcome-ending.result (did g c) check steady)
 
 pub returns-clause-written : goal.returns-clause-written
-returns-clause-written g c = lemmas.written _ _ _ _ _ _ _ (λ same list is. rw same is) _ c.outcome-ending.result (told g c)
+returns-clause-written g c = lemmas.written (of_source g c) (of_sink g c) (λ same list is. rw same is) _ c.outcome-ending.result (did g c)
 
 pub returns-clause-whole : goal.returns-clause-whole
-returns-clause-whole g c = λ is. lemmas.whole _ _ _ _ _ _ _ _ c.outcome-ending.result (told g c) (rw c.status.ensures at is)
-
-pub returns-clause-rest : goal.returns-clause-rest
-returns-clause-rest g c = λ is. lemmas.rest _ _ _ _ _ _ _ _ c.outcome-ending.result (told g c) (rw c.status.ensures at is)
+returns-clause-whole g c = λ is. lemmas.whole (of_source g c) (of_sink g c) _ c.outcome-ending.result (did g c) (rw c.tell.ensures.status at is)
 
 pub returns-clause-untouched : goal.returns-clause-untouched
-returns-clause-untouched g c = λ not_ok not_write. lemmas.untouched_else _ _ _ _ _ _ _ _ c.outcome-ending.result (told g c) (rw c.status.ensures at not_ok) (rw c.status.ensures at not_write)
+returns-clause-untouched g c = λ not_ok not_write. lemmas.untouched_else (of_source g c) (of_sink g c) _ c.outcome-ending.result (did g c) (rw c.tell.ensures.status at not_ok) (rw c.tell.ensures.status at not_write)
 
 pub returns-clause-refused_untouched : goal.returns-clause-refused_untouched
-returns-clause-refused_untouched g c = lemmas.refused_untouched _ _ _ _ _ _ _ _ c.outcome-ending.result (told g c)
+returns-clause-refused_untouched g c = lemmas.refused_untouched (of_source g c) (of_sink g c) _ c.outcome-ending.result (did g c)
+
+pub returns-clause-left : goal.returns-clause-left
+returns-clause-left g c = rw c.tell.ensures.status (lemmas.leaves (of_source g c) (of_sink g c) _ c.outcome-ending.result (did g c))
 
 pub returns-clause-cause_read : goal.returns-clause-cause_read
-returns-clause-cause_read g c = λ is. lemmas.read_fault _ _ _ _ _ _ _ _ c.outcome-ending.result (told g c) (rw c.status.ensures at is)
+returns-clause-cause_read g c = λ is. lemmas.read_fault (of_source g c) (of_sink g c) _ c.outcome-ending.result (did g c) (rw c.tell.ensures.status at is)
 
 pub returns-clause-cause_write : goal.returns-clause-cause_write
-returns-clause-cause_write g c = λ is. lemmas.write_fault _ _ _ _ _ _ _ _ c.outcome-ending.result (told g c) (rw c.status.ensures at is)
+returns-clause-cause_write g c = λ is. lemmas.write_fault (of_source g c) (of_sink g c) _ c.outcome-ending.result (did g c) (rw c.tell.ensures.status at is)
+
+pub returns-clause-steady_read : goal.returns-clause-steady_read
+returns-clause-steady_read g c = λ other. lemmas.steady_read (of_source g c) (of_sink g c) (ap g.S.Source.faults) _ c.outcome-ending.result (did g c) (rw c.tell.ensures.status at other)
+
+pub returns-clause-steady_write : goal.returns-clause-steady_write
+returns-clause-steady_write g c = λ other. lemmas.steady_write (of_source g c) (of_sink g c) (ap g.K.Sink.faults) _ c.outcome-ending.result (did g c) (rw c.tell.ensures.status at other)
 
 pub returns-clause-complete : goal.returns-clause-complete
-returns-clause-complete g c = λ steady steady_sink. rw c.status.ensures (lemmas.complete _ _ _ _ _ _ _ _ c.outcome-ending.result (told g c)
-    (λ rose. absurd (omega (arith, steady, rose))) (λ rose. absurd (omega (arith, steady_sink, rose))))
-
--- the bytes that notes are given
-text_is : (g : Over) (c : After-status g) → c.as_bytes.result.now ≡ text_of c.outcome-ending.result
-text_is g c = search rules
+returns-clause-complete g c = λ steady steady_sink. rw c.tell.ensures.status (lemmas.complete (of_source g c) (of_sink g c) _ c.outcome-ending.result (did g c) steady steady_sink)
 
 pub returns-clause-notes : goal.returns-clause-notes
 returns-clause-notes g c = record {
   ending = c.outcome-ending.result;
-  status = rw c.status.ensures refl;
-  fault = lemmas.named _ _ _ _ _ _ _ _ c.outcome-ending.result (told g c);
-  front = rw (text_is g c) at (Writes-prefix (g.N.Sink.taken c.args.notes.now) (g.N.Sink.taken c.write_all.new.sink) c.write_all.result c.as_bytes.result.now c.write_all.ensures.bytes);
-  whole = λ steady. rw (text_is g c) at (lemmas.whole_if_steady (g.N.Sink.taken c.args.notes.now) (g.N.Sink.taken c.write_all.new.sink) (g.N.Sink.faults c.args.notes.now) (g.N.Sink.faults c.write_all.new.sink)
-      c.write_all.result c.as_bytes.result.now steady c.write_all.ensures.bytes c.write_all.ensures.cause.failed);
+  status = c.tell.ensures.status;
+  did = did g c;
+  told = c.tell.ensures.told;
 }
