@@ -1,14 +1,15 @@
 -- What `check` says of a stream.
 use Rattle.std.specs.Prelude.{◌≡◌, ℕ, List, [], ◌∷◌, ◌++◌, length, sum_by, codes, decimal, Option, Some, None, Result, Ok, Err}
+use Rattle.l3_encoder.specs.FileLaws.{read_limit}
 use Rattle.l3_stream.specs.declared.fault.StreamFault.{StreamFault}
 use Rattle.l3_stream.specs.declared.unit.ChosenFrame.{ChosenFrame}
 use Rattle.l3_stream.specs.Frames.{main_data_length}
 use Rattle.l3_stream.specs.Deviation.{Content, reading_of, deviation_of}
 use Rattle.mp3enc.specs.declared.check.Totals.{Totals}
 
--- the most frames that a stream may have
+-- the most frames that a stream may have: those with which the law of encoded files reads one
 abbrev pub frames_limit : ℕ
-frames_limit = 16777216
+frames_limit = read_limit
 
 -- the reading of a stream, and its first deviation
 abbrev pub reading_in : List ℕ → Result Content StreamFault
