@@ -3,8 +3,8 @@
 //! What stands in each frame, as mathematics and as code: granule by granule the spectra of the
 //! samples, and for each unit the least gain within its budget of the bit reservoir (ISO/IEC
 //! 11172-3, 2.4; how a budget is found is this project's own).
-//! Before: `l3_wav`, which reads samples; the transforms; the search for a gain. After: the
-//! encoder, which writes the frames.
+//! Before: `l3_wav`, which reads samples; the transforms; `l3_search`, the least gain. After:
+//! `l3_encoder`, which writes the frames, and `l3_silence`, a law of what is chosen for zeros.
 #![tactic(auto)]
 
 mod choosing;

@@ -2,7 +2,8 @@
 //!
 //! The quantised values of one channel of one granule at a `global_gain` -> their split, regions
 //! and tables, and the bits of all their codes.
-//! Before: quantiser, split and regions; after: the search for the least gain within a budget.
+//! Before: `l3_quant` (values), `l3_region` (split and regions). After: `l3_search`, the least gain
+//! within a budget.
 #![tactic(auto)]
 
 mod count;

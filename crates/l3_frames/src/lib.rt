@@ -5,7 +5,7 @@
 //! given are right whatever is pushed later.
 //! Before: `l3_side` (header and side information), `l3_huff` (codes), `l3_stream` (units and the
 //! tape), `l3_bits`, `l3_io`.
-//! After: the encoder and the program.
+//! After: `l3_encoder`.
 #![tactic(auto)]
 
 mod codes;

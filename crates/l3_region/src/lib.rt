@@ -2,7 +2,7 @@
 //!
 //! The 576 quantised values of a unit -> how many pairs and quadruples they are, and the regions
 //! and code tables that take the fewest bits.
-//! Before: the quantiser and the code tables; after: the bit count of a unit at a gain.
+//! Before: `l3_quant` (the values), `l3_huff` (codes and their lengths). After: `l3_count`.
 //! Which regions and tables are taken is an encoder's own choice; to take the fewest bits, and the
 //! first at a tie, is this project's.
 #![tactic(auto)]

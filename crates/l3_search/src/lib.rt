@@ -2,8 +2,8 @@
 //!
 //! Gain after gain from the first one on, each counted at most once for a spectrum and an
 //! amplification, since a lane of a memo keeps what was counted.
-//! Before: counts at one gain; after: pieces of work, which guess a budget, and the committer,
-//! which knows it.
+//! Before: `l3_count`, counts at one gain. After: `l3_analysis`, which supposes a budget, and
+//! `l3_commit`, which knows it.
 #![tactic(auto)]
 
 mod laws;
