@@ -70,6 +70,9 @@ fn outcome<S: Source, K: Sink>(
 /// whole, in memory that does not grow, and then writes one line, `frames F bits B`: how many
 /// frames there are, and the sum of their units' part2_3_length. Where the input is refused, a read
 /// fails or there is no memory, nothing is written.
+///
+/// What the stream is for the bytes of any file, and that it reads as the chosen frames and in no
+/// other way, is the law of `l3_encoder::files_are_encoded`.
 pub fn run_alone<S: Source, K: Sink, N: Sink>(
     alloc: Global,
     words: &[&str],
