@@ -11,13 +11,13 @@ use Rattle.l3_reader.specs.declared.tape.Tape.{Tape}
 use Rattle.l3_reader.specs.declared.standing.Standing.{Standing}
 use Rattle.l3_reader.specs.InTurn.{Progress}
 
--- an answer, made of the value where there is one
+-- an answer, made of the value where there is one (only the inside of this crate)
 abbrev pub gives : {A B : Type 0} → (A → B) → Result A StreamFault → Result B StreamFault
 gives made (Ok x) = Ok (made x)
 gives made (Err fault) = Err fault
 
 -- a fault of a frame whose header is the right one and whose bytes are there, or of the bits around
--- its codes
+-- its codes (only the inside of this crate)
 abbrev pub IsWithin : StreamFault → Type 0
 IsWithin (faults.BadSide at) = ⊤
 IsWithin (faults.BadBegin at) = ⊤
@@ -73,11 +73,12 @@ progress_of s fault =
     record { limit = s.limit; settings = s.settings; place = tape_place s.tape; fault = fault }
 
 -- the bits of a slot of so many bytes that stands behind the bytes kept
+-- (only the inside of this crate)
 abbrev pub slot_behind : Tape → ℕ → List Bool
 slot_behind t bytes = bits_of (take bytes (drop t.filled t.bytes))
 
 -- main data of so many bits, with this main_data_begin, is within the tape with the next slot, and
--- ends at a bit
+-- ends at a bit (only the inside of this crate)
 pub record GoesTo (st : Settings) (t : Tape) (begin bits end : ℕ) : Type 0 where
   pub reached : begin ≤ slots_before st t.number
   pub after : t.end ≤ start_of st t.number begin
@@ -85,7 +86,7 @@ pub record GoesTo (st : Settings) (t : Tape) (begin bits end : ℕ) : Type 0 whe
   pub within : bits ≤ 8 * (begin + slot_bytes_of st t.number)
 
 -- so many bytes of those that were left were read into the front of a buffer: all that it has room
--- for, or all that were left
+-- for, or all that were left (only the inside of this crate)
 pub record ReadsFront (left : List ℕ) (n : ℕ) (buffer : List ℕ) (now : Option (List ℕ)) :
     Type 0 where
   pub rest : List ℕ
@@ -94,13 +95,14 @@ pub record ReadsFront (left : List ℕ) (n : ℕ) (buffer : List ℕ) (now : Opt
   pub short : n < length buffer → rest ≡ []
 
 -- the bytes that were left begin with these, and the others are left
+-- (only the inside of this crate)
 pub record HeaderBegins (left bytes : List ℕ) (now : Option (List ℕ)) : Type 0 where
   pub rest : List ℕ
   pub is : now ≡ Some rest
   pub bytes_are : left ≡ bytes ++ rest
 
 -- no header begins a frame of this number at this byte: a read failed, or one frame is too many, or
--- fewer than 4 bytes are left
+-- fewer than 4 bytes are left (only the inside of this crate)
 abbrev pub NoHeader : StreamFault → ℕ → ℕ → ℕ → List ℕ → Type 0
 NoHeader fault limit number at left =
     (fault ≡ faults.Read) ⊎ (((fault ≡ faults.TooLong at) × (limit ≤ number) × (0 < length left))

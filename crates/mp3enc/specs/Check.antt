@@ -39,6 +39,7 @@ abbrev pub line_in : List ℕ → Option (List ℕ)
 line_in bytes = line_by (reading_in bytes)
 
 -- the bytes are a stream with no deviation, and its frames add up to this
+-- (only the inside of this crate)
 pub record AddsUp (totals : Totals) (bytes : List ℕ) : Type 0 where
   pub content : Content
   pub reading : reading_in bytes ≡ Ok content
