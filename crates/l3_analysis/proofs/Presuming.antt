@@ -16,13 +16,16 @@ unfolding reserve_before
 reserve_before-first v = refl
 
 -- the second has what the first leaves
-pub reserve_before-second : (v : PieceView) (frame reserve demand : ℕ) (lines : List ℤ) → lines ≡ spectrum_in v 0 → demand ≡ demand_in v 0 → frame ≡ frame_in v → reserve ≡ v.guess →
+pub reserve_before-second : (v : PieceView) (frame reserve demand : ℕ) (lines : List ℤ) →
+    lines ≡ spectrum_in v 0 → demand ≡ demand_in v 0 → frame ≡ frame_in v → reserve ≡ v.guess →
     reserve_after v.settings frame reserve demand lines ≡ reserve_before v 1
 unfolding reserve_before
 reserve_before-second v frame reserve demand lines e f n r = rw (e, f, n, r) refl
 
 -- the gain that is picked for what the code holds of a channel
-pub presumed_gain-is : (v : PieceView) (channel frame reserve demand : ℕ) (lines : List ℤ) → lines ≡ spectrum_in v channel → demand ≡ demand_in v channel → frame ≡ frame_in v → reserve ≡ reserve_before v channel →
+pub presumed_gain-is : (v : PieceView) (channel frame reserve demand : ℕ) (lines : List ℤ) →
+    lines ≡ spectrum_in v channel → demand ≡ demand_in v channel → frame ≡ frame_in v →
+    reserve ≡ reserve_before v channel →
     picked_gain (edges_in v) no_amp lines (budget_under v.settings frame reserve demand) ≡ presumed_gain v channel
 unfolding presumed_gain
 presumed_gain-is v channel frame reserve demand lines e f n r = rw (e, f, n, r) refl
@@ -34,16 +37,19 @@ pub counts-presumed : (v : PieceView) (channel gain : ℕ) (lines : List ℤ) (b
 counts-presumed v channel gain lines before after e f h = rw (e, f) at h
 
 -- its steps
-pub steps-presumed : (v : PieceView) (channel gain : ℕ) (lines : List ℤ) → lines ≡ spectrum_in v channel → gain ≡ presumed_gain v channel →
+pub steps-presumed : (v : PieceView) (channel gain : ℕ) (lines : List ℤ) →
+    lines ≡ spectrum_in v channel → gain ≡ presumed_gain v channel →
     lacking (counts_in v channel) (first_gain_of (edges_in v) no_amp lines) gain ≡ presumed_steps_in v channel
 steps-presumed v channel gain lines e f = rw (e, f) refl
 
 -- the steps of all channels
-pub presumed_steps-mono : (v : PieceView) → v.settings.channels ≡ Mono → presumed_steps v ≡ presumed_steps_in v 0
+pub presumed_steps-mono : (v : PieceView) → v.settings.channels ≡ Mono →
+    presumed_steps v ≡ presumed_steps_in v 0
 unfolding presumed_steps
 presumed_steps-mono v e = rw e (omega arith)
 
-pub presumed_steps-stereo : (v : PieceView) → v.settings.channels ≡ Stereo → presumed_steps v ≡ presumed_steps_in v 0 + presumed_steps_in v 1
+pub presumed_steps-stereo : (v : PieceView) → v.settings.channels ≡ Stereo →
+    presumed_steps v ≡ presumed_steps_in v 0 + presumed_steps_in v 1
 unfolding presumed_steps
 presumed_steps-stereo v e = rw e (omega arith)
 
@@ -52,31 +58,41 @@ abbrev pub HasPresumed : PieceView → PieceView → ℕ → Type 0
 HasPresumed v w channel = HasLaneTo (edges_in v) no_amp (spectrum_in v channel) 0 (first_gain_of (edges_in v) no_amp (spectrum_in v channel)) (presumed_gain v channel) (memo_in v channel) (memo_in w channel)
 
 -- in mono: the first channel
-pub counts-mono : (v w : PieceView) → channels_of v.settings.channels ≡ 1 → HasPresumed v w 0 → (channel : ℕ) → IsChannel v channel → HasPresumed v w channel
+pub counts-mono : (v w : PieceView) → channels_of v.settings.channels ≡ 1 → HasPresumed v w 0 →
+    (channel : ℕ) → IsChannel v channel → HasPresumed v w channel
 counts-mono v w one first zero lt = first
 counts-mono v w one first (suc k) lt = absurd (omega arith)
 
-pub absent-mono : (v w : PieceView) → channels_of v.settings.channels ≡ 1 → ((k : ℕ) → memo_in w (suc k) ≡ memo_in v (suc k)) → (channel : ℕ) → channels_of v.settings.channels ≤ channel → memo_in w channel ≡ memo_in v channel
+pub absent-mono : (v w : PieceView) → channels_of v.settings.channels ≡ 1 →
+    ((k : ℕ) → memo_in w (suc k) ≡ memo_in v (suc k)) → (channel : ℕ) →
+    channels_of v.settings.channels ≤ channel → memo_in w channel ≡ memo_in v channel
 absent-mono v w one others zero le = absurd (omega arith)
 absent-mono v w one others (suc k) le = others k
 
-pub presumed-mono : (v w : PieceView) → v.settings.channels ≡ Mono → w ≡ record v { stage = Presumed; memos = w.memos } → HasPresumed v w 0 → ((k : ℕ) → memo_in w (suc k) ≡ memo_in v (suc k)) → IsPresumed v w
+pub presumed-mono : (v w : PieceView) → v.settings.channels ≡ Mono →
+    w ≡ record v { stage = Presumed; memos = w.memos } → HasPresumed v w 0 →
+    ((k : ℕ) → memo_in w (suc k) ≡ memo_in v (suc k)) → IsPresumed v w
 presumed-mono v w e same first others =
     let one : channels_of v.settings.channels ≡ 1 = ap channels_of e in
     record { same = same; counts = counts-mono v w one first; absent = absent-mono v w one others }
 
 -- in stereo: both
-pub counts-stereo : (v w : PieceView) → channels_of v.settings.channels ≡ 2 → HasPresumed v w 0 → HasPresumed v w 1 → (channel : ℕ) → IsChannel v channel → HasPresumed v w channel
+pub counts-stereo : (v w : PieceView) → channels_of v.settings.channels ≡ 2 → HasPresumed v w 0 →
+    HasPresumed v w 1 → (channel : ℕ) → IsChannel v channel → HasPresumed v w channel
 counts-stereo v w two first second zero lt = first
 counts-stereo v w two first second (suc zero) lt = second
 counts-stereo v w two first second (suc (suc k)) lt = absurd (omega arith)
 
-pub absent-stereo : (v w : PieceView) → channels_of v.settings.channels ≡ 2 → ((k : ℕ) → memo_in w (suc (suc k)) ≡ memo_in v (suc (suc k))) → (channel : ℕ) → channels_of v.settings.channels ≤ channel → memo_in w channel ≡ memo_in v channel
+pub absent-stereo : (v w : PieceView) → channels_of v.settings.channels ≡ 2 →
+    ((k : ℕ) → memo_in w (suc (suc k)) ≡ memo_in v (suc (suc k))) → (channel : ℕ) →
+    channels_of v.settings.channels ≤ channel → memo_in w channel ≡ memo_in v channel
 absent-stereo v w two others zero le = absurd (omega arith)
 absent-stereo v w two others (suc zero) le = absurd (omega arith)
 absent-stereo v w two others (suc (suc k)) le = others k
 
-pub presumed-stereo : (v w : PieceView) → v.settings.channels ≡ Stereo → w ≡ record v { stage = Presumed; memos = w.memos } → HasPresumed v w 0 → HasPresumed v w 1 → ((k : ℕ) → memo_in w (suc (suc k)) ≡ memo_in v (suc (suc k))) → IsPresumed v w
+pub presumed-stereo : (v w : PieceView) → v.settings.channels ≡ Stereo →
+    w ≡ record v { stage = Presumed; memos = w.memos } → HasPresumed v w 0 → HasPresumed v w 1 →
+    ((k : ℕ) → memo_in w (suc (suc k)) ≡ memo_in v (suc (suc k))) → IsPresumed v w
 presumed-stereo v w e same first second others =
     let two : channels_of v.settings.channels ≡ 2 = ap channels_of e in
     record { same = same; counts = counts-stereo v w two first second; absent = absent-stereo v w two others }

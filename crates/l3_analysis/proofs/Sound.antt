@@ -18,7 +18,8 @@ use Rattle.l3_analysis.specs.Analysis.{AreAnalyses, IsAtStage, IsSecond}
 use Rattle.l3_analysis.specs.Piece.{HasSpectra, IsChannel, IsSound, PieceView, edges_in, memo_in, no_memos, spectrum_in}
 
 -- the first lane is under no amplification
-plain-at : (stage : Stage) (rate : SampleRate) (samples : List ℤ) (a : Analysis) → IsAtStage stage rate samples a → (lane_of a.memo 0).amp ≡ no_amp
+plain-at : (stage : Stage) (rate : SampleRate) (samples : List ℤ) (a : Analysis) →
+    IsAtStage stage rate samples a → (lane_of a.memo 0).amp ≡ no_amp
 plain-at Blank rate samples a is = amp-new a.memo 0 is
 plain-at Loaded rate samples a is = amp-new a.memo 0 is
 plain-at Transformed rate samples a is = is.plain
@@ -29,7 +30,9 @@ plain-second Mono stage rate samples a is = amp-new a.memo 0 is
 plain-second Stereo stage rate samples a is = plain-at stage rate samples a is
 
 -- where the spectrum is there, the memo is one of it
-counts-at : (stage : Stage) (rate : SampleRate) (samples : List ℤ) (a : Analysis) → HasSpectra stage → IsAtStage stage rate samples a → IsMemoOf (band_edges rate) (spectrum_of samples) a.memo
+counts-at : (stage : Stage) (rate : SampleRate) (samples : List ℤ) (a : Analysis) →
+    HasSpectra stage → IsAtStage stage rate samples a →
+    IsMemoOf (band_edges rate) (spectrum_of samples) a.memo
 counts-at Blank rate samples a none is = absurd none
 counts-at Loaded rate samples a none is = absurd none
 counts-at Transformed rate samples a has is = is.memo
@@ -41,7 +44,8 @@ counts-second Mono stage rate samples a lt has is = absurd (omega arith)
 counts-second Stereo stage rate samples a lt has is = counts-at stage rate samples a has is
 
 -- before that it is empty
-empty-at : (stage : Stage) (rate : SampleRate) (samples : List ℤ) (a : Analysis) → (HasSpectra stage → ⊥) → IsAtStage stage rate samples a → a.memo ≡ empty_memo
+empty-at : (stage : Stage) (rate : SampleRate) (samples : List ℤ) (a : Analysis) →
+    (HasSpectra stage → ⊥) → IsAtStage stage rate samples a → a.memo ≡ empty_memo
 empty-at Blank rate samples a none is = is
 empty-at Loaded rate samples a none is = is
 empty-at Transformed rate samples a none is = absurd (none tt)
@@ -51,7 +55,8 @@ empty-second : (channels : Channels) (stage : Stage) (rate : SampleRate) (sample
 empty-second Mono stage rate samples a none is = is
 empty-second Stereo stage rate samples a none is = empty-at stage rate samples a none is
 
-two-empty : (first second : List LaneView) → first ≡ empty_memo → second ≡ empty_memo → first ∷ second ∷ [] ≡ no_memos
+two-empty : (first second : List LaneView) → first ≡ empty_memo → second ≡ empty_memo →
+    first ∷ second ∷ [] ≡ no_memos
 two-empty first second e f = rw (e, f) refl
 
 -- a channel that is not there has none

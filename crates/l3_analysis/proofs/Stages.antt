@@ -16,17 +16,21 @@ use Rattle.l3_analysis.specs.declared.stage.Stage.TheVariants.{Loaded, Transform
 use Rattle.l3_analysis.specs.Analysis.{IsAnalysisOf, IsAtStage, IsSecond}
 
 -- loaded, the memo is empty
-pub empty-loaded : (stage : Stage) (rate : SampleRate) (samples : List ℤ) (a : Analysis) → stage ≡ Loaded → IsAtStage stage rate samples a → a.memo ≡ empty_memo
+pub empty-loaded : (stage : Stage) (rate : SampleRate) (samples : List ℤ) (a : Analysis) →
+    stage ≡ Loaded → IsAtStage stage rate samples a → a.memo ≡ empty_memo
 empty-loaded stage rate samples a e is =
     let at : IsAtStage Loaded rate samples a = subst (λ (s : Stage). IsAtStage s rate samples a) e is in at
 
 -- transformed, what is kept is the analysis
-pub analysis-transformed : (stage : Stage) (rate : SampleRate) (samples : List ℤ) (a : Analysis) → stage ≡ Transformed → IsAtStage stage rate samples a → IsAnalysisOf rate samples a
+pub analysis-transformed : (stage : Stage) (rate : SampleRate) (samples : List ℤ) (a : Analysis) →
+    stage ≡ Transformed → IsAtStage stage rate samples a → IsAnalysisOf rate samples a
 analysis-transformed stage rate samples a e is =
     let at : IsAtStage Transformed rate samples a = subst (λ (s : Stage). IsAtStage s rate samples a) e is in at
 
 -- spectrum and demand of the samples with an empty memo
-pub analysis-of_empty : (rate : SampleRate) (samples : List ℤ) (a : Analysis) → a.spectrum ≡ spectrum_of samples → a.demand ≡ demand_of (hertz_index_of rate) (spectrum_of samples) → a.memo ≡ empty_memo →
+pub analysis-of_empty : (rate : SampleRate) (samples : List ℤ) (a : Analysis) →
+    a.spectrum ≡ spectrum_of samples →
+    a.demand ≡ demand_of (hertz_index_of rate) (spectrum_of samples) → a.memo ≡ empty_memo →
     IsAnalysisOf rate samples a
 analysis-of_empty rate samples a spectrum demand empty =
     record {
@@ -37,8 +41,10 @@ analysis-of_empty rate samples a spectrum demand empty =
     }
 
 -- the same spectrum and demand with another memo of that spectrum
-pub analysis-with_memo : (rate : SampleRate) (samples : List ℤ) (a b : Analysis) → IsAnalysisOf rate samples a → b.spectrum ≡ a.spectrum → b.demand ≡ a.demand →
-    IsMemoOf (band_edges rate) a.spectrum b.memo → (lane_of b.memo 0).amp ≡ no_amp → IsAnalysisOf rate samples b
+pub analysis-with_memo : (rate : SampleRate) (samples : List ℤ) (a b : Analysis) →
+    IsAnalysisOf rate samples a → b.spectrum ≡ a.spectrum → b.demand ≡ a.demand →
+    IsMemoOf (band_edges rate) a.spectrum b.memo → (lane_of b.memo 0).amp ≡ no_amp →
+    IsAnalysisOf rate samples b
 analysis-with_memo rate samples a b is spectrum demand memo plain =
     record {
       spectrum = spectrum ∙ is.spectrum;

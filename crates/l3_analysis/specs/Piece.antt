@@ -98,6 +98,8 @@ with_memo v channel memo = record v { memos = slice_set v.memos channel memo }
 pub record IsSound (v : PieceView) : Type 0 where
   pub two : length v.memos ≡ 2
   pub plain : (channel : ℕ) → (lane_of (memo_in v channel) 0).amp ≡ no_amp
-  pub counts : HasSpectra v.stage → (channel : ℕ) → IsChannel v channel → IsMemoOf (edges_in v) (spectrum_in v channel) (memo_in v channel)
+  pub counts : HasSpectra v.stage → (channel : ℕ) → IsChannel v channel →
+      IsMemoOf (edges_in v) (spectrum_in v channel) (memo_in v channel)
   pub before : (HasSpectra v.stage → ⊥) → v.memos ≡ no_memos
-  pub absent : (channel : ℕ) → channels_of v.settings.channels ≤ channel → memo_in v channel ≡ empty_memo
+  pub absent : (channel : ℕ) → channels_of v.settings.channels ≤ channel →
+      memo_in v channel ≡ empty_memo

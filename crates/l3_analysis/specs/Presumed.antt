@@ -57,4 +57,5 @@ pub record IsPresumed (before after : PieceView) : Type 0 where
   pub same : after ≡ record before { stage = Presumed; memos = after.memos }
   pub counts : (channel : ℕ) → IsChannel before channel →
       HasLaneTo (edges_in before) no_amp (spectrum_in before channel) 0 (first_gain_of (edges_in before) no_amp (spectrum_in before channel)) (presumed_gain before channel) (memo_in before channel) (memo_in after channel)
-  pub absent : (channel : ℕ) → channels_of before.settings.channels ≤ channel → memo_in after channel ≡ memo_in before channel
+  pub absent : (channel : ℕ) → channels_of before.settings.channels ≤ channel →
+      memo_in after channel ≡ memo_in before channel

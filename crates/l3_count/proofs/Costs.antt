@@ -14,10 +14,12 @@ pub lane_with-none : (amp : List ℕ) → lane_with amp no_costs ≡ empty_lane 
 unfolding no_costs no_counts
 lane_with-none amp = refl
 
-pub lane_with-empty : (amp : List ℕ) (costs : List (Option Cost)) → costs ≡ no_costs → lane_with amp costs ≡ empty_lane amp
+pub lane_with-empty : (amp : List ℕ) (costs : List (Option Cost)) → costs ≡ no_costs →
+    lane_with amp costs ≡ empty_lane amp
 lane_with-empty amp costs e = ap (lane_with amp) e ∙ lane_with-none amp
 
-pub no_costs-hold : (amp : List ℕ) (used : Bool) (costs : List (Option Cost)) → IsAmp amp → costs ≡ no_costs → HoldsCosts amp used costs
+pub no_costs-hold : (amp : List ℕ) (used : Bool) (costs : List (Option Cost)) → IsAmp amp →
+    costs ≡ no_costs → HoldsCosts amp used costs
 unfolding no_costs
 no_costs-hold amp used costs is e = record {
   is_amp = is;
@@ -33,16 +35,19 @@ no_costs-hold amp used costs is e = record {
     ]
 
 -- the entry of a count
-entry_some : (amp : List ℕ) (o : Option Cost) (c : Counted) → entry_with amp o ≡ Some c → (x : Cost) × (o ≡ Some x) × (counted_with amp x ≡ c)
+entry_some : (amp : List ℕ) (o : Option Cost) (c : Counted) → entry_with amp o ≡ Some c →
+    (x : Cost) × (o ≡ Some x) × (counted_with amp x ≡ c)
 entry_some amp None c e = absurd (cc)
 entry_some amp (Some x) c e = (x, refl, let same : counted_with amp x ≡ c = cc in same)
 
 -- the count of an entry
-pub kept_at-with : (amp : List ℕ) (costs : List (Option Cost)) (gain : ℕ) → kept_at (lane_with amp costs).counts gain ≡ entry_with amp (get_or costs gain None)
+pub kept_at-with : (amp : List ℕ) (costs : List (Option Cost)) (gain : ℕ) →
+    kept_at (lane_with amp costs).counts gain ≡ entry_with amp (get_or costs gain None)
 kept_at-with amp costs gain = get_or-map (entry_with amp) costs gain None
 
 -- what is kept is a lane
-pub lane_with-is : (amp : List ℕ) (used : Bool) (costs : List (Option Cost)) → HoldsCosts amp used costs → IsLane (lane_with amp costs)
+pub lane_with-is : (amp : List ℕ) (used : Bool) (costs : List (Option Cost)) →
+    HoldsCosts amp used costs → IsLane (lane_with amp costs)
 lane_with-is amp used costs is = record {
   amp = is.is_amp;
   long = length-map costs (entry_with amp) ∙ is.long;
@@ -61,7 +66,8 @@ lane_with-put amp costs c e =
     let P : List (Option Counted) → LaneView = λ counts. record { amp = amp; counts = counts } in
     ap P (put ∙ ap (λ (d : Counted). set (map (entry_with amp) costs) c.gain (Some d)) own)
 
-pub costs-put : (amp : List ℕ) (used : Bool) (costs : List (Option Cost)) (c : Counted) → HoldsCosts amp used costs → c.amp ≡ amp → IsCounted c →
+pub costs-put : (amp : List ℕ) (used : Bool) (costs : List (Option Cost)) (c : Counted) →
+    HoldsCosts amp used costs → c.amp ≡ amp → IsCounted c →
     HoldsCosts amp true (set costs c.gain (Some (cost_in c)))
 costs-put amp used costs c is e counted = record {
   is_amp = is.is_amp;
@@ -73,7 +79,8 @@ costs-put amp used costs c is e counted = record {
     own : counted_with amp (cost_in c) ≡ c
     own = ap (λ (a : List ℕ). counted_with a (cost_in c)) (sym e)
 
-    entry : (gain : ℕ) (x : Cost) → get_or (set costs c.gain (Some (cost_in c))) gain None ≡ Some x → IsEntry amp gain x
+    entry : (gain : ℕ) (x : Cost) →
+        get_or (set costs c.gain (Some (cost_in c))) gain None ≡ Some x → IsEntry amp gain x
     entry gain x at = elim (cases_eq gain c.gain) [
       | inl same ↦
           (let put : get_or (set costs c.gain (Some (cost_in c))) gain None ≡ Some (cost_in c) = rw same (get_or-set_same costs c.gain (Some (cost_in c)) None (omega (arith, is.long, counted.gain))) in

@@ -36,7 +36,8 @@ unfolding is_table
 zeros-hold values zeros = record { table_is = refl; held = λ k d lt. rw (zeros k d lt) (omega arith) }
 
 -- all regions may take table 0
-zeros-take : (edges : List ℕ) (q : List ℤ) → AreZero (region edges q 0 0 0) → AreZero (region edges q 0 0 1) → AreZero (region edges q 0 0 2) → MayTake edges q 0 0 0 0 0
+zeros-take : (edges : List ℕ) (q : List ℤ) → AreZero (region edges q 0 0 0) →
+    AreZero (region edges q 0 0 1) → AreZero (region edges q 0 0 2) → MayTake edges q 0 0 0 0 0
 zeros-take edges q first second third = record {
   first = omega arith;
   second = omega arith;
@@ -46,7 +47,8 @@ zeros-take edges q first second third = record {
   table2 = zeros-hold (region edges q 0 0 2) third;
 }
 
-no_quads : (q : List ℤ) → (0 ≡ (split_of q).big) → (0 ≡ (split_of q).quads) → quad_bits_in A (quad_values_of q) ≡ 0
+no_quads : (q : List ℤ) → (0 ≡ (split_of q).big) → (0 ≡ (split_of q).quads) →
+    quad_bits_in A (quad_values_of q) ≡ 0
 unfolding quad_bits_in
 no_quads q big quads = rw (← big, ← quads) refl
 

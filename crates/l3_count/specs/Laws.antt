@@ -58,4 +58,5 @@ abbrev pub CountsTheFewest : Type 0
 CountsTheFewest = (edges amp : List ℕ) (lines : List ℤ) (gain : ℕ) (c : Counted) →
     count_of edges amp lines gain ≡ Some c →
     let q = quantised_bands edges amp (pos gain) lines in
-    (a b s t u : ℕ) (quad : QuadTable) → MayTake edges q a b s t u → c.bits ≤ pairs_taken edges q a b s t u + quad_bits_in quad (quad_values_of q)
+    (a b s t u : ℕ) (quad : QuadTable) → MayTake edges q a b s t u →
+    c.bits ≤ pairs_taken edges q a b s t u + quad_bits_in quad (quad_values_of q)

@@ -40,7 +40,8 @@ memo_at memo lane gain = kept_at (lane_of memo lane).counts gain
 pub record IsLane (lane : LaneView) : Type 0 where
   pub amp : IsAmp lane.amp
   pub long : length lane.counts ≡ 256
-  pub at_gains : (gain : ℕ) (c : Counted) → kept_at lane.counts gain ≡ Some c → (c.gain ≡ gain) × (c.amp ≡ lane.amp)
+  pub at_gains : (gain : ℕ) (c : Counted) → kept_at lane.counts gain ≡ Some c →
+      (c.gain ≡ gain) × (c.amp ≡ lane.amp)
 
 -- four lanes
 pub record IsMemo (memo : List LaneView) : Type 0 where

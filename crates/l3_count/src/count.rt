@@ -7,12 +7,12 @@ use l3_base::{Amp, SampleRate};
 use l3_region::{QuadTable, Regions, Split, best_of_cut};
 use std::marker::Model;
 
-// All that a count says but its amplification. It has at most 16 bytes.
+// All that a count says but its amplification, in 12 bytes. There are at most 144 quadruples.
 #[derive(Clone, Copy, Debug)]
 pub(crate) struct Cost {
     pub(crate) bits: u16,
     pub(crate) big: u16,
-    pub(crate) quads: u16,
+    pub(crate) quads: u8,
     pub(crate) gain: u8,
     pub(crate) region0: u8,
     pub(crate) region1: u8,
@@ -76,7 +76,7 @@ impl Count {
     {
         Split {
             big: self.cost.big,
-            quads: self.cost.quads,
+            quads: u16::from(self.cost.quads),
         }
     }
 
@@ -133,7 +133,7 @@ impl Count {
             cost: Cost {
                 bits: regions.bits as u16,
                 big: split.big,
-                quads: split.quads,
+                quads: split.quads as u8,
                 gain,
                 region0: regions.region0,
                 region1: regions.region1,

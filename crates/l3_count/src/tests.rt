@@ -74,12 +74,12 @@ fn bits_of_one_line(rt: HostRuntime) {
     }
 }
 
-// Puts the count at a gain into a lane that has no amplification.
-fn put(memo: &mut Memo, lane: u8, gain: u8) {
+// Puts a count into a lane that has its amplification.
+fn put(memo: &mut Memo, lane: u8, count: &Option<Count>) {
     if lane < 4 {
-        if let Some(count) = count_one_line::<Brand>(Blank::new(1), 16777216, false, gain) {
+        if let Some(count) = count {
             if count.amp() == memo.amp(lane) {
-                memo.put(lane, count);
+                memo.put(lane, *count);
             }
         }
     }
@@ -91,7 +91,8 @@ fn a_count_in_a_memo(rt: HostRuntime) {
     let mut memo = Memo::new();
     let zero = Amp::zero();
     assert_eq!(rt; bits_of(memo.get(0, 152)), None);
-    put(&mut memo, 0, 152);
+    let count = count_one_line::<Brand>(Blank::new(1), 16777216, false, 152);
+    put(&mut memo, 0, &count);
     assert_eq!(rt; bits_of(memo.get(0, 152)), Some(20));
     assert_eq!(rt; bits_of(memo.get(0, 153)), None);
     assert_eq!(rt; bits_of(memo.get(3, 152)), None);
@@ -99,7 +100,7 @@ fn a_count_in_a_memo(rt: HostRuntime) {
     assert_eq!(rt; bits_of(memo.get(0, 152)), Some(20));
     memo.turn_to(0, &amplification(true));
     assert_eq!(rt; bits_of(memo.get(0, 152)), None);
-    put(&mut memo, 3, 152);
+    put(&mut memo, 3, &count);
     memo.clear();
     assert_eq!(rt; bits_of(memo.get(3, 152)), None);
     assert!(rt; memo.amp(0) == zero);

@@ -8,15 +8,18 @@ use Rattle.l3_count.proofs.Memos.{kept_at-put, kept_at-put_other, lane_of-set, l
 use Rattle.l3_search.specs.Gain.{HasCountsTo, HasLaneTo}
 
 -- a list is as long before a count is put in as after that
-long_before : (memo after : List (Option Counted)) (at : ℕ) (o : Option Counted) → after ≡ set memo at o → length after ≡ 256 → length memo ≡ 256
+long_before : (memo after : List (Option Counted)) (at : ℕ) (o : Option Counted) →
+    after ≡ set memo at o → length after ≡ 256 → length memo ≡ 256
 long_before memo after at o e long = sym (length-set memo at o) ∙ (ap (λ (m : List (Option Counted)). length m) (sym e) ∙ long)
 
-memo_before : (memo after : List LaneView) (at : ℕ) (l : LaneView) → after ≡ set memo at l → length after ≡ 4 → length memo ≡ 4
+memo_before : (memo after : List LaneView) (at : ℕ) (l : LaneView) → after ≡ set memo at l →
+    length after ≡ 4 → length memo ≡ 4
 memo_before memo after at l e long = sym (length-set memo at l) ∙ (ap (λ (m : List LaneView). length m) (sym e) ∙ long)
 
 -- a count that was put in
 pub HasCountsTo-put : (edges amp : List ℕ) (lines : List ℤ) (gain : ℕ) (c : Counted) (memo after : List (Option Counted)) → length memo ≡ 256 → c.gain ≤ 255 → c.gain ≡ gain →
-    count_of edges amp lines gain ≡ Some c → after ≡ set memo c.gain (Some c) → HasCountsTo edges amp lines gain gain memo after
+    count_of edges amp lines gain ≡ Some c → after ≡ set memo c.gain (Some c) →
+    HasCountsTo edges amp lines gain gain memo after
 HasCountsTo-put edges amp lines gain c memo after long most at is e = record {
   counts = λ k low high.
       let same : k ≡ c.gain = omega arith in
@@ -28,7 +31,8 @@ HasCountsTo-put edges amp lines gain c memo after long most at is e = record {
 
 -- the same between other names of the gains
 pub HasCountsTo-named : (edges amp : List ℕ) (lines : List ℤ) (a b first last : ℕ) (before after : List (Option Counted)) → a ≡ first → b ≡ last →
-    HasCountsTo edges amp lines a b before after → HasCountsTo edges amp lines first last before after
+    HasCountsTo edges amp lines a b before after →
+    HasCountsTo edges amp lines first last before after
 HasCountsTo-named edges amp lines a b first last before after low high h = record {
   counts = λ k from to. h.counts k (omega arith) (omega arith);
   below = λ k lt. h.below k (omega arith);
@@ -37,7 +41,9 @@ HasCountsTo-named edges amp lines a b first last before after low high h = recor
 
 -- one gain after the others
 pub HasCountsTo-more : (edges amp : List ℕ) (lines : List ℤ) (first last : ℕ) (before now after : List (Option Counted)) → first ≤ last + 1 →
-    HasCountsTo edges amp lines first last before now → HasCountsTo edges amp lines (last + 1) (last + 1) now after → HasCountsTo edges amp lines first (last + 1) before after
+    HasCountsTo edges amp lines first last before now →
+    HasCountsTo edges amp lines (last + 1) (last + 1) now after →
+    HasCountsTo edges amp lines first (last + 1) before after
 HasCountsTo-more edges amp lines first last before now after le h more = record {
   counts = λ k from to. elim (cases_lt k (last + 1)) [
     | inl lt ↦ more.below k lt ∙ h.counts k from (omega arith)
@@ -51,8 +57,10 @@ HasCountsTo-more edges amp lines first last before now after le h more = record 
 
 -- a count that was put into a lane
 pub HasLaneTo-put : (edges amp : List ℕ) (lines : List ℤ) (lane gain : ℕ) (c : Counted) (memo after : List LaneView) → lane < 4 → IsMemo after →
-    (lane_of memo lane).amp ≡ amp → c.gain ≤ 255 → c.gain ≡ gain → count_of edges amp lines gain ≡ Some c →
-    after ≡ set memo lane (with_count (lane_of memo lane) c) → HasLaneTo edges amp lines lane gain gain memo after
+    (lane_of memo lane).amp ≡ amp → c.gain ≤ 255 → c.gain ≡ gain →
+    count_of edges amp lines gain ≡ Some c →
+    after ≡ set memo lane (with_count (lane_of memo lane) c) →
+    HasLaneTo edges amp lines lane gain gain memo after
 HasLaneTo-put edges amp lines lane gain c memo after lt is under most at own e =
     let long = memo_before memo after lane (with_count (lane_of memo lane) c) e is.long in
     let here : lane_of after lane ≡ with_count (lane_of memo lane) c =
@@ -67,7 +75,8 @@ HasLaneTo-put edges amp lines lane gain c memo after lt is under most at own e =
 
 -- a memo of which nothing was changed
 pub HasLaneTo-same : (edges amp : List ℕ) (lines : List ℤ) (lane gain : ℕ) (c : Counted) (memo : List LaneView) → (lane_of memo lane).amp ≡ amp →
-    IsLaneOf edges lines (lane_of memo lane) → memo_at memo lane gain ≡ Some c → HasLaneTo edges amp lines lane gain gain memo memo
+    IsLaneOf edges lines (lane_of memo lane) → memo_at memo lane gain ≡ Some c →
+    HasLaneTo edges amp lines lane gain gain memo memo
 HasLaneTo-same edges amp lines lane gain c memo under is e = record {
   amp_is = under;
   counts = record {
@@ -83,7 +92,8 @@ HasLaneTo-same edges amp lines lane gain c memo under is e = record {
 
 -- the same between other names of the gains
 pub HasLaneTo-named : (edges amp : List ℕ) (lines : List ℤ) (lane a b first last : ℕ) (before after : List LaneView) → a ≡ first → b ≡ last →
-    HasLaneTo edges amp lines lane a b before after → HasLaneTo edges amp lines lane first last before after
+    HasLaneTo edges amp lines lane a b before after →
+    HasLaneTo edges amp lines lane first last before after
 HasLaneTo-named edges amp lines lane a b first last before after low high h = record {
   amp_is = h.amp_is;
   counts = HasCountsTo-named edges amp lines a b first last (lane_of before lane).counts (lane_of after lane).counts low high h.counts;
@@ -92,7 +102,8 @@ HasLaneTo-named edges amp lines lane a b first last before after low high h = re
 
 -- one gain after the others
 pub HasLaneTo-more : (edges amp : List ℕ) (lines : List ℤ) (lane first last : ℕ) (before now after : List LaneView) → first ≤ last + 1 →
-    HasLaneTo edges amp lines lane first last before now → HasLaneTo edges amp lines lane (last + 1) (last + 1) now after →
+    HasLaneTo edges amp lines lane first last before now →
+    HasLaneTo edges amp lines lane (last + 1) (last + 1) now after →
     HasLaneTo edges amp lines lane first (last + 1) before after
 HasLaneTo-more edges amp lines lane first last before now after le h more = record {
   amp_is = more.amp_is;
@@ -102,7 +113,9 @@ HasLaneTo-more edges amp lines lane first last before now after le h more = reco
 
 -- with one more count of the spectrum the lane is still its lane
 pub IsLaneOf-more : (edges amp : List ℕ) (lines : List ℤ) (lane first last : ℕ) (before after : List LaneView) → (lane_of before lane).amp ≡ amp →
-    IsLaneOf edges lines (lane_of before lane) → HasLaneTo edges amp lines lane first last before after → IsLaneOf edges lines (lane_of after lane)
+    IsLaneOf edges lines (lane_of before lane) →
+    HasLaneTo edges amp lines lane first last before after →
+    IsLaneOf edges lines (lane_of after lane)
 IsLaneOf-more edges amp lines lane first last before after under is has gain c e =
     let P : List ℕ → Type 0 = λ a. count_of edges a lines gain ≡ Some c in
     elim (cases_lt gain first) [

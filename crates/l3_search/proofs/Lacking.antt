@@ -19,7 +19,8 @@ range_with_len-more a (suc n) =
     ap (λ (l : List ℕ). a ∷ l) (range_with_len-more (a + 1) n ∙ ap (λ (k : ℕ). range_with_len (a + 1) n ++ k ∷ []) e)
 
 -- all of the numbers pass
-count_by-range_all : (p : ℕ → Bool) (a n : ℕ) → ((k : ℕ) → p k ≡ true) → count_by p (range_with_len a n) ≡ n
+count_by-range_all : (p : ℕ → Bool) (a n : ℕ) → ((k : ℕ) → p k ≡ true) →
+    count_by p (range_with_len a n) ≡ n
 count_by-range_all p a zero h = refl
 count_by-range_all p a (suc n) h =
     let one : cond {A = ℕ} (p a) 1 0 ≡ 1 = ap (λ (b : Bool). cond b 1 0) (h a) in
@@ -28,7 +29,8 @@ count_by-range_all p a (suc n) h =
     omega arith
 
 -- none of them does
-count_by-range_none : (p : ℕ → Bool) (a n : ℕ) → ((k : ℕ) → a ≤ k → k < a + n → p k ≡ false) → count_by p (range_with_len a n) ≡ 0
+count_by-range_none : (p : ℕ → Bool) (a n : ℕ) → ((k : ℕ) → a ≤ k → k < a + n → p k ≡ false) →
+    count_by p (range_with_len a n) ≡ 0
 count_by-range_none p a zero h = refl
 count_by-range_none p a (suc n) h =
     let one : cond {A = ℕ} (p a) 1 0 ≡ 0 = ap (λ (b : Bool). cond b 1 0) (h a (omega arith) (omega arith)) in
@@ -37,21 +39,26 @@ count_by-range_none p a (suc n) h =
     omega arith
 
 -- at one gain
-pub lacking-one : (memo : List (Option Counted)) (gain : ℕ) → lacking memo gain gain ≡ cond (is_none (kept_at memo gain)) 1 0
+pub lacking-one : (memo : List (Option Counted)) (gain : ℕ) →
+    lacking memo gain gain ≡ cond (is_none (kept_at memo gain)) 1 0
 unfolding lacking
 lacking-one memo gain = let one : gain + 1 - gain ≡ 1 = omega arith in rw one (omega arith)
 
-pub lacking-one_there : (memo : List (Option Counted)) (gain : ℕ) (c : Counted) → kept_at memo gain ≡ Some c → 0 ≡ lacking memo gain gain
+pub lacking-one_there : (memo : List (Option Counted)) (gain : ℕ) (c : Counted) →
+    kept_at memo gain ≡ Some c → 0 ≡ lacking memo gain gain
 lacking-one_there memo gain c e = sym (lacking-one memo gain ∙ ap (λ (o : Option Counted). cond (is_none o) 1 0) e)
 
-pub lacking-one_none : (memo : List (Option Counted)) (gain : ℕ) → kept_at memo gain ≡ None → 1 ≡ lacking memo gain gain
+pub lacking-one_none : (memo : List (Option Counted)) (gain : ℕ) → kept_at memo gain ≡ None →
+    1 ≡ lacking memo gain gain
 lacking-one_none memo gain e = sym (lacking-one memo gain ∙ ap (λ (o : Option Counted). cond (is_none o) 1 0) e)
 
-pub lacking-one_same : (memo other : List (Option Counted)) (gain : ℕ) → kept_at memo gain ≡ kept_at other gain → lacking memo gain gain ≡ lacking other gain gain
+pub lacking-one_same : (memo other : List (Option Counted)) (gain : ℕ) →
+    kept_at memo gain ≡ kept_at other gain → lacking memo gain gain ≡ lacking other gain gain
 lacking-one_same memo other gain e = lacking-one memo gain ∙ (ap (λ (o : Option Counted). cond (is_none o) 1 0) e ∙ sym (lacking-one other gain))
 
 -- up to one gain more
-pub lacking-more : (memo : List (Option Counted)) (first last : ℕ) → first ≤ last + 1 → lacking memo first (last + 1) ≡ lacking memo first last + lacking memo (last + 1) (last + 1)
+pub lacking-more : (memo : List (Option Counted)) (first last : ℕ) → first ≤ last + 1 →
+    lacking memo first (last + 1) ≡ lacking memo first last + lacking memo (last + 1) (last + 1)
 unfolding lacking
 lacking-more memo first last le =
     let p : ℕ → Bool = λ gain. is_none (kept_at memo gain) in
@@ -66,7 +73,8 @@ lacking-more memo first last le =
     omega arith
 
 -- at most one for each gain
-pub lacking-le : (memo : List (Option Counted)) (first last : ℕ) → lacking memo first last ≤ last + 1 - first
+pub lacking-le : (memo : List (Option Counted)) (first last : ℕ) →
+    lacking memo first last ≤ last + 1 - first
 unfolding lacking
 lacking-le memo first last =
     let n = last + 1 - first in
@@ -89,5 +97,6 @@ counted_lacks_none edges amp lines last most before after within top has =
     let first = first_gain_of edges amp lines in
     count_by-range_none (λ gain. is_none (kept_at after gain)) first (last + 1 - first) (λ k low high. there k low (omega arith))
   where
-    there : (k : ℕ) → first_gain_of edges amp lines ≤ k → k ≤ last → is_none (kept_at after k) ≡ false
+    there : (k : ℕ) → first_gain_of edges amp lines ≤ k → k ≤ last →
+        is_none (kept_at after k) ≡ false
     there k low high = ap (λ (o : Option Counted). is_none o) (has.counts k low (omega arith) ∙ count_from_the_first_gain edges amp lines k (omega arith) low)

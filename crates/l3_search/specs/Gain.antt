@@ -41,12 +41,14 @@ pub record IsLeastWithin (edges amp : List ℕ) (lines : List ℤ) (budget : ℕ
   pub under : c.amp ≡ amp
   pub own : count_of edges amp lines c.gain ≡ Some c
   pub within : c.bits ≤ budget
-  pub least : (gain : ℕ) (other : Counted) → count_of edges amp lines gain ≡ Some other → other.bits ≤ budget → c.gain ≤ gain
+  pub least : (gain : ℕ) (other : Counted) → count_of edges amp lines gain ≡ Some other →
+      other.bits ≤ budget → c.gain ≤ gain
 
 -- a lane has the spectrum's counts under an amplification at the gains from the first to the last,
 -- and at all others what it had before
 pub record HasCountsTo (edges amp : List ℕ) (lines : List ℤ) (first last : ℕ) (before after : List (Option Counted)) : Type 0 where
-  pub counts : (gain : ℕ) → first ≤ gain → gain ≤ last → kept_at after gain ≡ count_of edges amp lines gain
+  pub counts : (gain : ℕ) → first ≤ gain → gain ≤ last →
+      kept_at after gain ≡ count_of edges amp lines gain
   pub below : (gain : ℕ) → gain < first → kept_at after gain ≡ kept_at before gain
   pub above : (gain : ℕ) → last < gain → kept_at after gain ≡ kept_at before gain
 

@@ -42,4 +42,5 @@ LacksAtMostTried = (edges amp : List ℕ) (lines : List ℤ) (budget : ℕ) (cou
 -- a lane that has the counts of a spectrum up to some gain lacks none up to a lesser one
 abbrev pub CountedLacksNone : Type 0
 CountedLacksNone = (edges amp : List ℕ) (lines : List ℤ) (last most : ℕ) (before after : List (Option Counted)) → last ≤ most → most ≤ 255 →
-    HasCountsTo edges amp lines (first_gain_of edges amp lines) most before after → lacking after (first_gain_of edges amp lines) last ≡ 0
+    HasCountsTo edges amp lines (first_gain_of edges amp lines) most before after →
+    lacking after (first_gain_of edges amp lines) last ≡ 0

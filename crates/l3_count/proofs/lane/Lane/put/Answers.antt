@@ -7,7 +7,8 @@ use Rattle.l3_count.proofs.Costs.{costs-put, lane_with-is, lane_with-put}
 use Rattle.l3_count.proofs.lane.Lane.put.Goals as goal
 
 -- the entries after the count was put in
-entries : (costs : List (Option Cost)) (at : ℕ) (x : Cost) (c : Counted) → x ≡ cost_in c → at ≡ x.gain →
+entries : (costs : List (Option Cost)) (at : ℕ) (x : Cost) (c : Counted) → x ≡ cost_in c →
+    at ≡ x.gain →
     set costs at (Some x) ≡ set costs c.gain (Some (cost_in c))
 entries costs at x c e f =
     ap (λ (k : ℕ). set costs k (Some x)) (f ∙ ap (λ (y : Cost). y.gain) e) ∙ ap (λ (y : Cost). set costs c.gain (Some y)) e

@@ -4,7 +4,8 @@ use Rattle.l3_count.specs.Memo.{IsMemo, LaneView, empty_lane, empty_memo}
 use Rattle.l3_count.proofs.Memos.{empty_memo-is}
 use Rattle.l3_count.proofs.memo.Memo.new.Goals as goal
 
-four : (a b c d : LaneView) → a ≡ empty_lane no_amp → b ≡ empty_lane no_amp → c ≡ empty_lane no_amp → d ≡ empty_lane no_amp →
+four : (a b c d : LaneView) → a ≡ empty_lane no_amp → b ≡ empty_lane no_amp →
+    c ≡ empty_lane no_amp → d ≡ empty_lane no_amp →
     a ∷ b ∷ c ∷ d ∷ [] ≡ empty_memo
 unfolding empty_memo
 four a b c d e f g h = rw (e, f, g, h) refl
