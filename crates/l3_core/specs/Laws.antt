@@ -11,7 +11,8 @@ use Rattle.l3_core.specs.Items.{items_of, spent, on_offer, ready, given, handed_
 use Rattle.l3_core.specs.Items.{put_on_offer, kept, left_as_spent, taken, along}
 
 module _ {T : Type 0} where
-  -- of what cells hold so, as many that pass p are there before or come in, as go out or are there after
+  -- of what cells hold so, as many that pass p are there before or come in, as go out or are there
+  -- after
   abbrev pub Balance : {A : Type 0} → (A → Bool) → (Content T → List A) → BoardState T → List A → List A → BoardState T → Type 0
   Balance p held before come_in go_out after =
       count_by p (flat_map held before.cells) + count_by p come_in
@@ -43,7 +44,8 @@ module _ {T : Type 0} (number : T → ℕ) where
   abbrev pub count_of : ℕ → List T → ℕ
   count_of i items = count_by (λ x. number x == i) items
 
-  -- from a fresh board on, no granule is handed to more claimants than it was put on offer, nor taken more often:
+  -- from a fresh board on, no granule is handed to more claimants than it was put on offer, nor
+  -- taken more often:
   -- one that was put on offer once goes to one claimant at most, and is taken once at most
   abbrev pub HandedOutOnce : Type 0
   HandedOutOnce =
@@ -52,7 +54,8 @@ module _ {T : Type 0} (number : T → ℕ) where
       (count_of i (flat_map job answers) ≤ count_of i (along put_on_offer events answers))
       × (count_by (λ j. j == i) (along taken events answers) ≤ count_of i (along put_on_offer events answers))
 
-  -- by any test of items: claims, and takes that revoke, hand out what was put on offer; other takes what was kept;
+  -- by any test of items: claims, and takes that revoke, hand out what was put on offer; other
+  -- takes what was kept;
   -- and offers what stays as spent, late items among it, which goes out in no other way
   abbrev pub ItemsPass : Type 0
   ItemsPass =

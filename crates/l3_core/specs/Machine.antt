@@ -74,7 +74,8 @@ module _ {T : Type 0} (number : T → ℕ) where
   abbrev pub NothingOffered : BoardState T → Type 0
   NothingOffered board = (c : ℕ) (x : T) → slice_get board.cells c ≢ Some (Offered x)
 
-  -- from the board before, the machine may give this answer to the event and go on to the board after
+  -- from the board before, the machine may give this answer to the event and go on to the board
+  -- after
   abbrev pub Step : BoardState T → Event T → Answer T → BoardState T → Type 0
   -- an item is put on offer where its cell is empty, and comes back else
   Step before (event.Offer x) (answer.Offer (Placed spent)) after =
@@ -101,7 +102,8 @@ module _ {T : Type 0} (number : T → ℕ) where
       (state_at before (number x) ≢ Some (state.Claimed (number x)))
       × (state_at before (number x) ≢ Some (state.Withdrawn (number x)))
       × (y ≡ x) × (after ≡ before)
-  -- a granule that is ready or on offer goes out and the spare stays as a spent one; else the spare comes back
+  -- a granule that is ready or on offer goes out and the spare stays as a spent one; else the spare
+  -- comes back
   Step before (event.Take i spare) (answer.Take (Got x)) after =
       (cell_of before i ≡ Some (Ready x)) × (number x ≡ i) × (after ≡ with_cell before i (Empty spare))
   Step before (event.Take i spare) (answer.Take (Revoked x)) after =

@@ -1,4 +1,5 @@
--- The board's answers where a claim takes the granule of the least number: a run of the machine that chooses nothing.
+-- The board's answers where a claim takes the granule of the least number: a run of the machine
+-- that chooses nothing.
 use Rattle.std.specs.Prelude.{◌≡◌, ◌≤◌, ◌==◌, ℕ, nat_le, if◌then◌else◌, true, Option, Some, None, List, [], ◌∷◌, slice_get}
 use Rattle.std.specs.List.{flat_map}
 use Rattle.l3_core.specs.declared.cell.Content.{Content}

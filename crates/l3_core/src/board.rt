@@ -16,8 +16,8 @@ use std::marker::Model;
 
 /// A board of 1 to 64 cells, each of whose calls is one event of the machine.
 ///
-/// Granule i stands in cell `i mod L` alone, L being the number of cells. An empty cell keeps a spent item, which only
-/// a placed offer hands out, to be loaded anew. Only `new` takes memory.
+/// Granule i stands in cell `i mod L` alone, L being the number of cells. An empty cell keeps a
+/// spent item, which only a placed offer hands out, to be loaded anew. Only `new` takes memory.
 #[derive(Drop)]
 pub struct Core<T: Numbered> {
     cells: Vec<Content<T>>,
@@ -118,8 +118,8 @@ impl<T: Numbered> Core<T> {
         }
     }
 
-    /// Takes a granule off the board. The spare stays where an item goes out, and comes back else; its own number is
-    /// never looked at.
+    /// Takes a granule off the board. The spare stays where an item goes out, and comes back else;
+    /// its own number is never looked at.
     pub fn take(&mut self, number: u64, spare: T) -> Take<T>
         ensures exact { (result, self.new) ≡ take_outcome T.number_of self.old number spare }
         ensures step { Step T.number_of self.old (event.Take number spare) (answer.Take result) self.new }

@@ -19,7 +19,8 @@ pub enum Cell {
     Withdrawn(u64),
 }
 
-/// What a cell holds: its state, and its item unless a claimant has it. The item of an empty cell is a spent one.
+/// What a cell holds: its state, and its item unless a claimant has it. The item of an empty cell
+/// is a spent one.
 /// Contracts see a board as the list of these and whether it is shut.
 #[derive(Drop)]
 pub enum Content<T> {

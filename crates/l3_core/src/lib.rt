@@ -1,7 +1,10 @@
-//! Events on a board of cells -> their answers, by the rule under which analysed granules are shared out to workers.
+//! Events on a board of cells -> their answers, by the rule under which analysed granules are
+//! shared out to workers.
 //!
-//! The board is a machine over events, with no thread in it. Granule i stands in cell `i mod L` of L cells.
-//! Before: pieces that the committer loads. After: a board that threads share, each of whose calls is one event.
+//! The board is a machine over events, with no thread in it. Granule i stands in cell `i mod L` of
+//! L cells.
+//! Before: pieces that the committer loads. After: a board that threads share, each of whose calls
+//! is one event.
 //! The board and its events are this project's own.
 #![tactic(auto)]
 
