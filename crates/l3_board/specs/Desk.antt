@@ -1,4 +1,5 @@
--- The desk's record: what it was last told of each cell, how far it was served, and with how much work done.
+-- The desk's record: what it was last told of each cell, how far it was served, and with how much
+-- work done.
 use Rattle.std.specs.Prelude.{ℕ, ◌+◌, ◌%◌, ◌==◌, Bool, false, not, ◌&&◌, if◌then◌else◌, List, replicate, slice_index_or, slice_set}
 use Rattle.l3_core.specs.declared.event.Offer.{Offer}
 use Rattle.l3_core.specs.declared.event.Offer.TheVariants.{Placed, Busy}
@@ -7,7 +8,8 @@ use Rattle.l3_core.specs.declared.event.Take.TheVariants.{Got, Revoked, InWork, 
 use Rattle.l3_board.specs.declared.entry.Entry.{Entry}
 use Rattle.l3_board.specs.declared.entry.Entry.TheVariants.{Free, Told, Busied, Left, Gone}
 
--- what a desk keeps: an entry for each cell, the number up to which it was served, the work of what it got last
+-- what a desk keeps: an entry for each cell, the number up to which it was served, the work of what
+-- it got last
 pub record DeskState : Type 0 where
   pub last : List Entry
   pub served : ℕ
@@ -64,7 +66,8 @@ is_offered i (Told j) = j == i
 is_offered i (Busied j turn) = j == i
 is_offered i before = false
 
--- a take of granule i serves it: all before it were served, and its cell's entry is of an offer of it
+-- a take of granule i serves it: all before it were served, and its cell's entry is of an offer of
+-- it
 abbrev pub is_served : ℕ → ℕ → Entry → Bool
 is_served served i before = (served == i) && is_offered i before
 
@@ -72,6 +75,7 @@ is_served served i before = (served == i) && is_offered i before
 abbrev pub served_after : ℕ → ℕ → Entry → ℕ
 served_after served i before = if is_served served i before then i + 1 else served
 
--- the work of what was got last, after this answer to a take of granule i: it changes where i is served
+-- the work of what was got last, after this answer to a take of granule i: it changes where i is
+-- served
 abbrev pub got_after : {T : Type 0} → (T → ℕ) → ℕ → ℕ → ℕ → Entry → Take T → ℕ
 got_after work got served i before answer = if is_served served i before then work_got work answer else got

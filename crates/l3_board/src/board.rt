@@ -10,11 +10,12 @@ use l3_base::GranuleNo;
 use l3_core::{Claim, Deposit, Numbered, Offer, Take};
 use std::sync::Wait;
 
-/// A board of cells between one desk, which offers granules and takes them, and workers' seats, which claim them and
-/// hand them in.
+/// A board of cells between one desk, which offers granules and takes them, and workers' seats,
+/// which claim them and hand them in.
 ///
-/// Contracts say which item an answer hands out or back, and how each answer moves the desk's record and the seat's
-/// claim. They say nothing of which answer comes, but that `claim_wait` never answers `Nothing`.
+/// Contracts say which item an answer hands out or back, and how each answer moves the desk's
+/// record and the seat's claim. They say nothing of which answer comes, but that `claim_wait` never
+/// answers `Nothing`.
 pub trait Board {
     /// What passes through the board.
     type Item: Numbered;
@@ -89,8 +90,8 @@ pub trait Board {
         ensures free { claimed seat.new ≡ None }
         ensures stray { (x : Self.Item) → result ≡ Stray x → x ≡ item };
 
-    /// Takes a granule off the board. The spare stays where an item goes out, and comes back else; its own number is
-    /// never looked at.
+    /// Takes a granule off the board. The spare stays where an item goes out, and comes back else;
+    /// its own number is never looked at.
     fn take(&self, desk: &mut Self::Desk, number: GranuleNo, spare: Self::Item) -> Take<Self::Item>
         requires made { has_desk self.now desk.old }
         ensures made { has_desk self.now desk.new }

@@ -9,8 +9,9 @@ use std::marker::Model;
 
 /// What a desk of any board keeps: an entry for each cell, and how far it was served.
 ///
-/// Granule i has the entry of cell `i mod L`, L being the number of cells. A take serves its granule where all before
-/// it were served and that entry is of an offer of it. Only `new` takes memory.
+/// Granule i has the entry of cell `i mod L`, L being the number of cells. A take serves its
+/// granule where all before it were served and that entry is of an offer of it. Only `new` takes
+/// memory.
 #[derive(Debug, Drop)]
 pub struct DeskRecord {
     last: Vec<Entry>,
@@ -30,7 +31,8 @@ impl Model for DeskRecord {
 }
 
 impl DeskRecord {
-    /// The record that begins, of a board of so many cells: each entry is free, and nothing was served.
+    /// The record that begins, of a board of so many cells: each entry is free, and nothing was
+    /// served.
     pub fn new(alloc: Global, cells: u8) -> Result<DeskRecord, AllocError>
         requires some { 0 < cells }
         ensures { IfOk result (λ desk. desk ≡ fresh_desk cells) }

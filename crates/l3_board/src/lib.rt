@@ -1,7 +1,12 @@
-//! Analysed granules, offered by one desk -> shared out to workers, each with a seat, and taken back in order.
+//! Analysed granules, offered by one desk -> shared out to workers, each with a seat, and taken
+//! back in order.
 //!
-//! Before: `l3_core`, the board as a machine in one thread. After: `l3_lanes`, the same trait without locks, and the
-//! committer, which has the desk. All of it is this project's own.
+//! Before: `l3_core`, the board as a machine in one thread. After: `l3_lanes`, the same trait
+//! without locks, and the committer, which has the desk. All of it is this project's own.
+//!
+//! Contracts say what an answer means: which item it hands out or back, and how it moves the desk's
+//! record and a seat's claim. Which answer a `LockBoard` gives, and that its bells wake those who
+//! wait, is tied to nothing but tests, since contracts know nothing of what stands under a lock.
 #![tactic(auto)]
 
 mod board;
@@ -18,3 +23,5 @@ pub use crate::lock::{LockBoard, LockDesk, LockSeat};
 mod running;
 #[cfg(test)]
 mod tests;
+#[cfg(test)]
+mod waking;

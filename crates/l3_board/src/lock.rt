@@ -9,9 +9,11 @@ use std::alloc::{AllocError, Global};
 use std::marker::Model;
 use std::sync::{Condvar, Mutex, Wait};
 
-/// A board under one lock: each call but `ahead` is one call of `Core`, for which it takes the lock and so may wait.
+/// A board under one lock: each call but `ahead` is one call of `Core`, for which it takes the lock
+/// and so may wait.
 ///
-/// Contracts see it as the number of its cells. Only `new` takes memory.
+/// Contracts see it as the number of its cells. Which answer it gives is tied to nothing but tests.
+/// Only `new` takes memory.
 #[derive(Drop)]
 pub struct LockBoard<'a, T: Numbered, R: Wait> {
     core: Mutex<Core<T>>,
@@ -53,7 +55,8 @@ impl LockDesk {
     }
 }
 
-/// The seat of a worker at a `LockBoard`. Contracts see the number of the granule that it has claimed.
+/// The seat of a worker at a `LockBoard`. Contracts see the number of the granule that it has
+/// claimed.
 #[derive(Debug, Drop)]
 pub struct LockSeat {
     claim: Option<u64>,

@@ -163,7 +163,7 @@ fn work<P: Piece, B: Board<Item = P>, R: Wait>(rt: &R, board: &B, seat: &mut B::
         match board.claim_wait(rt, seat) {
             Claim::Job(mut piece) => {
                 piece.presume();
-                let _ = board.deposit(seat, piece);
+                board.deposit(seat, piece);
             }
             _ => return,
         }
@@ -229,8 +229,8 @@ pub(crate) fn encode_over<
     whole
 }
 
-// The same over a board under a lock, which threads may share whatever the pieces. Gives besides how many granules
-// were served.
+// The same over a board under a lock, which threads may share whatever the pieces. Gives besides
+// how many granules were served.
 pub(crate) fn encode_with<P: Piece + Send, K: Sink, R: Threads + Wait + Sync>(
     rt: &R,
     alloc: Global,

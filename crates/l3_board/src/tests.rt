@@ -9,7 +9,7 @@ use std::test::Fail;
 
 // An item of a granule, with a mark of its own, which is its work too.
 #[derive(Drop)]
-struct Item {
+pub(crate) struct Item {
     number: u64,
     mark: u64,
 }
@@ -28,14 +28,14 @@ impl Numbered for Item {
     }
 }
 
-fn marked(number: u64, mark: u64) -> Item
+pub(crate) fn marked(number: u64, mark: u64) -> Item
     ensures { (result.number ≡ number) × (result.mark ≡ mark) }
 {
     Item { number, mark }
 }
 
 // Blanks for 1 to 64 cells, marked from 100 on.
-fn blanks(alloc: Global, cells: u8) -> Result<Option<Vec<Item>>, AllocError>
+pub(crate) fn blanks(alloc: Global, cells: u8) -> Result<Option<Vec<Item>>, AllocError>
     ensures { IfOk result (λ made. IfSome made (λ items. (0 < vec_len items) × (vec_len items ≤ 64))) }
 {
     let mut blanks = Vec::new(alloc);
