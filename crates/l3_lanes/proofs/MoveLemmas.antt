@@ -1,4 +1,5 @@
--- One cell, one view and one value at home change, and the rule stays: a worker moves, or the desk moves.
+-- One cell, one view and one value at home change, and the rule stays: a worker moves, or the desk
+-- moves.
 use Rattle.std.proofs.Common.{◌≡◌, ◌≢◌, ℕ, zero, suc, ◌<◌, inr, ⊎_elim, true, false, true≢false, if◌then◌else◌, List, [], ◌∷◌, ◌++◌, map, length, set, get_or, refl, sym, ap, ◌∙◌, subst, arith, length-set, Option, Some, None}
 use Rattle.std.proofs.lemmas.List.{map-set, set-append_left, length-map, get_or_append_left}
 use mathlib.Core.Logic.{dite}

@@ -32,7 +32,8 @@ there_same (y ∷ l) (suc c) a b x at e = there_same l c a b x at e
 same_board : (a b : BoardState ℕ) → a.cells ≡ b.cells → a.shut ≡ b.shut → a ≡ b
 same_board a b cells shut = λ k. record { cells = cells k; shut = shut k }
 
--- a cell changes, which is not on offer then, and after it one that is on offer is claimed: they may change the other way
+-- a cell changes, which is not on offer then, and after it one that is on offer is claimed: they
+-- may change the other way
 swapped : (before after last : BoardState ℕ) (i j : ℕ) (old new : Content ℕ) → cell_of before i ≡ Some old → after ≡ with_cell before i new → ((k : ℕ) → new ≡ Offered k → ⊥) → cell_of after j ≡ Some (Offered j) → last ≡ with_cell after j (Claimed j)
     → (cell_of before j ≡ Some (Offered j)) × (cell_of (with_cell before j (Claimed j)) i ≡ Some old) × (last ≡ with_cell (with_cell before j (Claimed j)) i new)
 swapped before after last i j old new at changes no_offer on_offer claims =

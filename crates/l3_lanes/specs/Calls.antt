@@ -20,7 +20,8 @@ use Rattle.l3_lanes.specs.Words.{offered_word, claimed_word, ready_word, withdra
 use Rattle.l3_lanes.specs.Views.{Knows, words_at}
 use Rattle.l3_lanes.specs.History.{Extends, Sees, Answers, bare}
 
--- the desk of so many cells holds no slot, and its list has the granule of each cell that was offered and not taken
+-- the desk of so many cells holds no slot, and its list has the granule of each cell that was
+-- offered and not taken
 pub record IsDesk {S : Type 0} (cells : ℕ) (me : Me S View) (granules : List (Option ℕ)) (shut : Bool) : Type 0 where
   pub desk : me.0.desk ≡ true
   pub no_slot : me.1 ≡ []
@@ -76,8 +77,8 @@ module _ {T : Type 0} where
   abbrev pub granule_at : LaneDesk T → ℕ → Option ℕ
   granule_at desk cell = slice_index_or desk.granules.items cell None
 
-  -- what an offer of granule i notes at its cell: 0 was read, and the word of granule i on offer left; or another word
-  -- was read. The desk of a board that it has shut notes nothing.
+  -- what an offer of granule i notes at its cell: 0 was read, and the word of granule i on offer
+  -- left; or another word was read. The desk of a board that it has shut notes nothing.
   abbrev pub OfferNotes : Bool → ℕ → Offer T → List ℕ → Type 0
   OfferNotes true i (Placed x) words = ⊥
   OfferNotes true i (Busy x) words = words ≡ []
@@ -89,12 +90,14 @@ module _ {T : Type 0} where
   granule_offered i before (Placed x) = Some i
   granule_offered i before (Busy x) = before
 
-  -- what a take of granule i notes at its cell, the newest first, where the desk knows this granule there:
+  -- what a take of granule i notes at its cell, the newest first, where the desk knows this granule
+  -- there:
   -- Revoked: the first exchange found it on offer and left 0;
-  -- Got: that exchange read that it is ready, or it read that it is claimed and the second read that it is ready; then 0
-  -- was left;
+  -- Got: that exchange read that it is ready, or it read that it is claimed and the second read
+  -- that it is ready; then 0 was left;
   -- InWork: the first read that it is claimed, and the second found it so and left it withdrawn.
-  -- Where an item goes out, the load by which the slot goes home reads 0 at last. Else NotOffered, with no step.
+  -- Where an item goes out, the load by which the slot goes home reads 0 at last. Else NotOffered,
+  -- with no step.
   abbrev pub TakeNotes : Option ℕ → ℕ → Take T → List ℕ → Type 0
   TakeNotes before i (Revoked x) words = (before ≡ Some i) × (words ≡ 0 ∷ 0 ∷ [])
   TakeNotes before i (Got x) words =
@@ -109,23 +112,24 @@ module _ {T : Type 0} where
   granule_taken before (InWork x) = None
   granule_taken before (NotOffered x) = before
 
-  -- what a deposit of granule i notes at its cell: it was found claimed and left ready; or it was read that it is
-  -- withdrawn, and 0 left
+  -- what a deposit of granule i notes at its cell: it was found claimed and left ready; or it was
+  -- read that it is withdrawn, and 0 left
   abbrev pub DepositNotes : ℕ → Deposit T → List ℕ → Type 0
   DepositNotes i Kept words = words ≡ ready_word i ∷ []
   DepositNotes i Late words = words ≡ 0 ∷ withdrawn_word i ∷ []
   DepositNotes i (Stray x) words = ⊥
 
 module _ {T : Type 0} (cells : ℕ) where
-  -- the move of an offer of granule i; where it is busy and the desk has not shut the board, so is the board machine
+  -- the move of an offer of granule i; where it is busy and the desk has not shut the board, so is
+  -- the board machine
   abbrev pub OfferMoves : Bool → ℕ → Offer T → Past → Past → Type 0
   OfferMoves true i (Placed x) v w = ⊥
   OfferMoves true i (Busy x) v w = w ≡ v
   OfferMoves false i (Placed x) v w = (spent : ℕ) × Extends cells v (event.Offer i) (answer.Offer (Placed spent)) w
   OfferMoves false i (Busy x) v w = Answers cells v (event.Offer i) (answer.Offer (Busy i)) w
 
-  -- the move of a claim, after the word for shut was read: it is that of an open board where an item is handed out or
-  -- nothing is found, and that of a board that is shut at Shut
+  -- the move of a claim, after the word for shut was read: it is that of an open board where an
+  -- item is handed out or nothing is found, and that of a board that is shut at Shut
   abbrev pub ClaimMoves : (T → ℕ) → Claim T → Past → Past → Type 0
   ClaimMoves number (Job x) v w = (read : Past) × Sees cells false v read × Extends cells read event.Claim (answer.Claim (Job (number x))) w
   ClaimMoves number Nothing v w = Sees cells false v w
@@ -149,12 +153,13 @@ abbrev pub ShutMoves : ℕ → Bool → Past → Past → Type 0
 ShutMoves cells true v w = w ≡ v
 ShutMoves cells false v w = Extends cells v event.Shut answer.Shut w
 
--- from the view v to the view w the cell was found to be on offer and left claimed, by one load and one exchange
+-- from the view v to the view w the cell was found to be on offer and left claimed, by one load and
+-- one exchange
 abbrev pub WasClaimed : ℕ → ℕ → View → View → Type 0
 WasClaimed cell i v w = words_at w cell ≡ claimed_word i ∷ offered_word i ∷ words_at v cell
 
--- from the view v to the view w the cell was read once, and was not on offer, or it was on offer and an exchange read
--- another word
+-- from the view v to the view w the cell was read once, and was not on offer, or it was on offer
+-- and an exchange read another word
 abbrev pub WasLost : ℕ → View → View → Type 0
 WasLost cell v w =
     (n : ℕ) × (((IsOffered n → ⊥) × (words_at w cell ≡ n ∷ words_at v cell))

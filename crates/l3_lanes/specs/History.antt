@@ -1,6 +1,6 @@
 -- The history of the board: the moves that changed it, in one order.
--- A move is an event of the board machine with its answer. An item stands as the number of its granule, and a spent one
--- as any number: a take leaves 0.
+-- A move is an event of the board machine with its answer. An item stands as the number of its
+-- granule, and a spent one as any number: a take leaves 0.
 use Rattle.std.specs.Prelude.{◌≡◌, ◌==◌, ◌≤◌, ℕ, Bool, if◌then◌else◌, true, false, List, [], ◌∷◌, ◌++◌, map, length, replicate, Option}
 use mathlib.Core.Option.{some}
 use lib.ListN.{get_elem?}
@@ -39,8 +39,8 @@ shown (Withdrawn i) = withdrawn_word i
 abbrev pub opened : BoardState ℕ → BoardState ℕ
 opened board = record { cells = board.cells; shut = false }
 
--- the board may make this move, of one of the eight kinds: it is a step of the board machine. But a claim, which has read
--- before that the board is not shut, may come after the shut
+-- the board may make this move, of one of the eight kinds: it is a step of the board machine. But a
+-- claim, which has read before that the board is not shut, may come after the shut
 pub data IsMove : BoardState ℕ → Event ℕ → Answer ℕ → BoardState ℕ → Type 0 where
   offer_placed : {before after : BoardState ℕ} {i spent : ℕ} → Step itself before (event.Offer i) (answer.Offer (Placed spent)) after → IsMove before (event.Offer i) (answer.Offer (Placed spent)) after
   claim_job : {before after : BoardState ℕ} {i : ℕ} → Step itself (opened before) event.Claim (answer.Claim (Job i)) (opened after) → after.shut ≡ before.shut → IsMove before event.Claim (answer.Claim (Job i)) after
@@ -92,12 +92,13 @@ abbrev pub ClaimsFirst : List Move → Type 0
 ClaimsFirst [] = Unit {0}
 ClaimsFirst (m ∷ moves) = (moves_of m.seat (claims_in moves) ≡ []) × ClaimsFirst moves
 
--- these moves lead from a fresh board of so many cells to this one, and a seat that claims after the shut has made no
--- move between the two: its call began before the shut
+-- these moves lead from a fresh board of so many cells to this one, and a seat that claims after
+-- the shut has made no move between the two: its call began before the shut
 abbrev pub IsHistory : ℕ → List Move → BoardState ℕ → Type 0
 IsHistory cells moves board = AreMoves (fresh (replicate cells 0)) moves board × ClaimsFirst (from_shut moves)
 
--- the moves in the order of the board machine: claims that came after the shut stand right before it
+-- the moves in the order of the board machine: claims that came after the shut stand right before
+-- it
 abbrev pub in_order : List Move → List Move
 in_order moves = before_shut moves ++ (claims_in (from_shut moves) ++ others_in (from_shut moves))
 
@@ -108,8 +109,8 @@ move seat e a = record { seat = seat; event = e; answer = a }
 abbrev pub BeginsWith : List Move → List Move → Type 0
 BeginsWith moves seen = (more : List Move) × (moves ≡ seen ++ more)
 
--- a seat makes this move: the history so far begins with what the seat had seen and ends with the move, and of the seat
--- it has just the moves that it has made, in their order
+-- a seat makes this move: the history so far begins with what the seat had seen and ends with the
+-- move, and of the seat it has just the moves that it has made, in their order
 pub record Extends (cells : ℕ) (v : Past) (e : Event ℕ) (a : Answer ℕ) (w : Past) : Type 0 where
   pub seat : ℕ
   pub between : List Move
@@ -119,8 +120,8 @@ pub record Extends (cells : ℕ) (v : Past) (e : Event ℕ) (a : Answer ℕ) (w 
   pub mine : w.mine ≡ v.mine ++ move seat e a ∷ []
   pub own : moves_of seat w.seen ≡ w.mine
 
--- a seat reads the word for shut: the history so far begins with what the seat had seen, has of the seat just the moves
--- that it has made, and leaves a board that is shut or not
+-- a seat reads the word for shut: the history so far begins with what the seat had seen, has of the
+-- seat just the moves that it has made, and leaves a board that is shut or not
 pub record Sees (cells : ℕ) (shut : Bool) (v w : Past) : Type 0 where
   pub seat : ℕ
   pub board : BoardState ℕ
@@ -130,8 +131,9 @@ pub record Sees (cells : ℕ) (shut : Bool) (v w : Past) : Type 0 where
   pub mine : w.mine ≡ v.mine
   pub own : moves_of seat w.seen ≡ w.mine
 
--- a seat makes no move, and its answer is that of the board machine: the history so far begins with what the seat had
--- seen, has of the seat just the moves that it has made, and leaves a board on which the machine answers so and stays
+-- a seat makes no move, and its answer is that of the board machine: the history so far begins with
+-- what the seat had seen, has of the seat just the moves that it has made, and leaves a board on
+-- which the machine answers so and stays
 pub record Answers (cells : ℕ) (v : Past) (e : Event ℕ) (a : Answer ℕ) (w : Past) : Type 0 where
   pub seat : ℕ
   pub board : BoardState ℕ
@@ -145,8 +147,9 @@ pub record Answers (cells : ℕ) (v : Past) (e : Event ℕ) (a : Answer ℕ) (w 
 abbrev pub HasSeenOpen : ℕ → Past → Type 0
 HasSeenOpen cells v = (board : BoardState ℕ) × IsHistory cells v.seen board × (board.shut ≡ false)
 
--- there is one history. The words show the board that it leaves; it begins with what each seat has seen, which has all
--- moves of the seat, and has of each seat just the moves that it has made, in their order, and none of others
+-- there is one history. The words show the board that it leaves; it begins with what each seat has
+-- seen, which has all moves of the seat, and has of each seat just the moves that it has made, in
+-- their order, and none of others
 pub record Recorded (words : List ℕ) (seats : List Knowledge) (moves : List Move) (board : BoardState ℕ) (bell : ℕ) : Type 0 where
   pub shows : words ≡ map shown board.cells ++ (if board.shut then 1 else 0) ∷ bell ∷ []
   pub history : IsHistory (length board.cells) moves board

@@ -1,4 +1,5 @@
--- What the rule says of the board, in the words of each party, and what a claim that found nothing had counted.
+-- What the rule says of the board, in the words of each party, and what a claim that found nothing
+-- had counted.
 use Rattle.std.specs.Prelude.{◌≡◌, ◌≢◌, ℕ, ◌+◌, ◌<◌, ◌≤◌, ◌%◌, ◌⊎◌, true, length, Option, Some, slice_index_or}
 use mathlib.Core.Option.{some}
 use lib.ListN.{get_elem?}
@@ -17,7 +18,8 @@ abbrev pub word_at : {S : Type 0} → State S View → ℕ → ℕ
 word_at s cell = slice_index_or s.words cell 0
 
 module _ {T : Type 0} (number : T → ℕ) where
-  -- where the rule holds, a cell has granule i on offer, claimed or ready exactly where the desk knows granule i there
+  -- where the rule holds, a cell has granule i on offer, claimed or ready exactly where the desk
+  -- knows granule i there
   abbrev pub DeskKnows : Type 0
   DeskKnows = (s : State (Option T) View) (p : ℕ) (desk : View) (cell : ℕ) (granule : Option ℕ) → Holds number s → get_elem? s.views p ≡ some desk → desk.desk ≡ true → cell < length s.homes
       → Knows desk cell granule → (i : ℕ) → (granule ≡ Some i → IsOnBoard i (word_at s cell)) × (IsOnBoard i (word_at s cell) → granule ≡ Some i)
@@ -43,7 +45,8 @@ last_word v place = slice_index_or (words_at v place) 0 0
 abbrev pub word_before : View → ℕ → ℕ
 word_before v place = slice_index_or (words_at v place) 1 0
 
--- a cell that was lost was read at least once, and its last word is not on offer; or twice, and its two last words differ
+-- a cell that was lost was read at least once, and its last word is not on offer; or twice, and its
+-- two last words differ
 abbrev pub LostByCounts : Type 0
 LostByCounts = (cell : ℕ) (v w : View) → WasLost cell v w
     → ((readings v cell < readings w cell) × (IsOffered (last_word w cell) → ⊥)) ⊎ ((readings v cell + 2 ≤ readings w cell) × (last_word w cell ≢ word_before w cell))

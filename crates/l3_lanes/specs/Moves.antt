@@ -1,4 +1,5 @@
--- What each kind of step does to what a seat knows of the history: eight kinds make a move, the others none.
+-- What each kind of step does to what a seat knows of the history: eight kinds make a move, the
+-- others none.
 use Rattle.std.specs.Prelude.{◌≡◌, ◌==◌, ◌/◌, ◌%◌, ℕ, [], Some, MatchBool, slice_index_or}
 use Rattle.atomic_table.specs.Table.{Step, Me}
 use Rattle.l3_core.specs.declared.event.Event.{Event}
@@ -49,7 +50,8 @@ module _ {S : Type 0} where
   Looked says s me n new = says s (bare me) n (bare new)
       × MatchBool (s.word == s.slots) (Sees s.slots (n == 1) me.0.past new.0.past) (new.0.past ≡ me.0.past)
 
-  -- the desk makes no move, and sees the history where it reads that a cell is not empty: an offer there is busy
+  -- the desk makes no move, and sees the history where it reads that a cell is not empty: an offer
+  -- there is busy
   abbrev pub LooksBusy : Says S → Tells S
   LooksBusy says s me n new = says s (bare me) n (bare new)
       × MatchBool (n == 0) (new.0.past ≡ me.0.past)

@@ -1,12 +1,16 @@
 -- The rule of the board without locks, which every step keeps.
 --
--- 1. Each cell's word is 0 or one of the four words of a granule of that cell; the word for shut is 1 exactly where the
+-- 1. Each cell's word is 0 or one of the four words of a granule of that cell; the word for shut is
+-- 1 exactly where the
 --    desk's view says shut, and else 0. The bell may be any number.
--- 2. A cell is claimed or withdrawn exactly where one seat has the claim, and no two have it. The claim of a seat that
+-- 2. A cell is claimed or withdrawn exactly where one seat has the claim, and no two have it. The
+-- claim of a seat that
 --    has read the word of a withdrawn cell is of a withdrawn cell.
 -- 3. The item at home in a cell on offer or ready is the granule's.
--- 4. What the desk knows of a cell is true: `Fits`. A cell of a granule that was offered is on offer, claimed or ready;
---    where the desk last read that it is claimed it is claimed or ready, and where it last read ready it is ready. One
+-- 4. What the desk knows of a cell is true: `Fits`. A cell of a granule that was offered is on
+-- offer, claimed or ready;
+--    where the desk last read that it is claimed it is claimed or ready, and where it last read
+-- ready it is ready. One
 --    that was left in work is withdrawn, or empty with its slot at home. A free one is empty.
 -- 5. The first seat is the desk, and no other is.
 use Rattle.std.specs.Prelude.{◌≡◌, ℕ, ◌%◌, true, if◌then◌else◌, List, [], ◌∷◌, ◌++◌, map, length, Option, Some}
@@ -24,7 +28,8 @@ abbrev pub IsPlaced : ℕ → ℕ → Lane → Type 0
 IsPlaced cells c x = (i : ℕ) → granule_of x ≡ Some i → i % cells ≡ c
 
 module _ {T : Type 0} (number : T → ℕ) where
-  -- what the desk knows of a cell, the cell, and the value at home in its slot, if the slot is at home
+  -- what the desk knows of a cell, the cell, and the value at home in its slot, if the slot is at
+  -- home
   pub data Fits : Tell → Lane → maybe.Option (Option T) → Type 0 where
     free_empty : {y : Option T} → IsFull y → Fits Free empty (some y)
     held_empty : {h : maybe.Option (Option T)} → Fits Held empty h
@@ -37,7 +42,8 @@ module _ {T : Type 0} (number : T → ℕ) where
     left_withdrawn : {i p : ℕ} {h : maybe.Option (Option T)} → Fits (Left i) (withdrawn i p) h
     left_empty : {i : ℕ} {y : Option T} → IsFull y → Fits (Left i) empty (some y)
 
-  -- the rule, of words, values at home and views, with the cells' states, the desk's view, and the two other words
+  -- the rule, of words, values at home and views, with the cells' states, the desk's view, and the
+  -- two other words
   pub record Kept (words : List ℕ) (homes : List (maybe.Option (Option T))) (views : List View) (cells : List Lane) (desk : View) (shut bell : ℕ) : Type 0 where
     -- 1
     pub shows : words ≡ map code cells ++ shut ∷ bell ∷ []

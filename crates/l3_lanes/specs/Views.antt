@@ -55,7 +55,8 @@ pub record HasTold (v : View) (cell : ℕ) (t : Tell) (w : View) : Type 0 where
   pub late : w.late ≡ v.late
   pub tells : w.tells ≡ slice_set v.tells cell t
 
--- from the view v to the view w these words were noted at the place, the newest first, and none elsewhere
+-- from the view v to the view w these words were noted at the place, the newest first, and none
+-- elsewhere
 pub record Notes (place : ℕ) (words : List ℕ) (v w : View) : Type 0 where
   pub here : words_at w place ≡ words ++ words_at v place
   pub elsewhere : (k : ℕ) → (k ≡ place → ⊥) → words_at w k ≡ words_at v k

@@ -1,5 +1,5 @@
-// The board without locks, by the calls that all boards have. Each has the clauses that all boards have, and those that
-// tie its answer to the words that were noted.
+// The board without locks, by the calls that all boards have. Each has the clauses that all boards
+// have, and those that tie its answer to the words that were noted.
 ghost use Rattle.std.specs.Prelude.{◌≡◌, ◌≢◌, ℕ, List, ◌%◌, ◌<◌, ◌≤◌, ◌↔◌, [], ◌∷◌, None, Some, true};
 ghost use Rattle.l3_core.specs.declared.event.Offer.TheVariants.{Busy};
 ghost use Rattle.l3_core.specs.declared.event.Claim.TheVariants.{Job, Nothing, Shut};

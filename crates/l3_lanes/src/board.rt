@@ -26,8 +26,8 @@ impl<T: Numbered> LaneBoard<T> {
 
     /// Puts an item on offer, and hands out the spent one of its cell, to be loaded anew.
     ///
-    /// `Busy` hands the item back: exactly where the desk has shut the board, or the word of the cell that was read in
-    /// this call is not that of an empty one.
+    /// `Busy` hands the item back: exactly where the desk has shut the board, or the word of the
+    /// cell that was read in this call is not that of an empty one.
     pub fn offer(&self, desk: &mut LaneDesk<T>, item: T) -> Offer<T>
         requires made { IsDeskOf self.now desk.old }
         requires number { T.number_of item ≤ 8589934592 }
@@ -49,9 +49,9 @@ impl<T: Numbered> LaneBoard<T> {
 
     /// Hands out an item on offer, to be handed in again.
     ///
-    /// It reads the word for shut once, and answers `Shut` exactly where that is 1. Else it tries each cell, by at most
-    /// one load and one exchange. `Nothing` comes only where each cell was not on offer, or no longer held the word on
-    /// offer that was read there.
+    /// It reads the word for shut once, and answers `Shut` exactly where that is 1. Else it tries
+    /// each cell, by at most one load and one exchange. `Nothing` comes only where each cell was
+    /// not on offer, or no longer held the word on offer that was read there.
     pub fn claim(&self, seat: &mut LaneSeat<T>) -> Claim<T>
         requires made { IsSeatOf self.now seat.old }
         requires free { claimed seat.old ≡ None }
@@ -76,8 +76,8 @@ impl<T: Numbered> LaneBoard<T> {
         }
     }
 
-    /// Waits until an item could be claimed, or the board is shut. It never answers `Nothing`, and answers `Shut`
-    /// exactly where it read 1 in the word for shut.
+    /// Waits until an item could be claimed, or the board is shut. It never answers `Nothing`, and
+    /// answers `Shut` exactly where it read 1 in the word for shut.
     pub fn claim_wait<R: Wait>(&self, rt: &R, seat: &mut LaneSeat<T>) -> Claim<T>
         requires made { IsSeatOf self.now seat.old }
         requires free { claimed seat.old ≡ None }
@@ -104,8 +104,9 @@ impl<T: Numbered> LaneBoard<T> {
         unreachable!()
     }
 
-    /// Hands in the item of the granule that the seat has claimed: `Kept` where the granule waits to be taken then,
-    /// `Late` where it was withdrawn, so that the item stays as a spent one. It never answers `Stray`.
+    /// Hands in the item of the granule that the seat has claimed: `Kept` where the granule waits
+    /// to be taken then, `Late` where it was withdrawn, so that the item stays as a spent one. It
+    /// never answers `Stray`.
     pub fn deposit(&self, seat: &mut LaneSeat<T>, item: T) -> Deposit<T>
         requires made { IsSeatOf self.now seat.old }
         requires claim { claimed seat.old ≡ Some (T.number_of item) }
@@ -123,11 +124,11 @@ impl<T: Numbered> LaneBoard<T> {
         answer
     }
 
-    /// Takes a granule off the board. The spare stays where an item goes out, and comes back else; its own number is
-    /// never looked at.
+    /// Takes a granule off the board. The spare stays where an item goes out, and comes back else;
+    /// its own number is never looked at.
     ///
-    /// At most three steps on the cell decide. `NotOffered` comes without a step, exactly where the desk does not know
-    /// the granule there.
+    /// At most three steps on the cell decide. `NotOffered` comes without a step, exactly where the
+    /// desk does not know the granule there.
     pub fn take(&self, desk: &mut LaneDesk<T>, number: GranuleNo, spare: T) -> Take<T>
         requires made { IsDeskOf self.now desk.old }
         ensures made { IsDeskOf self.now desk.new }
@@ -148,8 +149,8 @@ impl<T: Numbered> LaneBoard<T> {
         answer
     }
 
-    /// Shuts the board for good: nothing is put on offer or claimed from then on. It takes no step where the desk has
-    /// shut the board before.
+    /// Shuts the board for good: nothing is put on offer or claimed from then on. It takes no step
+    /// where the desk has shut the board before.
     pub fn shut(&self, desk: &mut LaneDesk<T>)
         requires made { IsDeskOf self.now desk.old }
         ensures made { IsDeskOf self.now desk.new }

@@ -11,7 +11,8 @@ pub fn laws_of_the_rule<T: Numbered>()
     ensures lost { LostByCounts }
 {}
 
-/// What the history of the board without locks is: a run of the board machine of `l3_core` over granules' numbers.
+/// What the history of the board without locks is: a run of the board machine of `l3_core` over
+/// granules' numbers.
 pub fn laws_of_the_history<T: Numbered>()
     ensures run { HistoryIsRun }
     ensures rule { RuleHasRun T.number_of }

@@ -1,8 +1,10 @@
-//! A board that threads share without a lock: the calls of the desk and of the workers' seats -> their answers.
+//! A board that threads share without a lock: the calls of the desk and of the workers' seats ->
+//! their answers.
 //!
-//! One word and one slot for each cell, a word for shut, and a bell that is raised for those who wait. Each call decides
-//! by single steps on one word. The board is this project's own.
-//! Before: `l3_core`, the same board as a machine over events. After: `l3_encoder`, which runs workers on it.
+//! One word and one slot for each cell, a word for shut, and a bell that is raised for those who
+//! wait. Each call decides by single steps on one word. The board is this project's own.
+//! Before: `l3_core`, the same board as a machine over events. After: `l3_encoder`, which runs
+//! workers on it.
 #![tactic(auto)]
 
 mod as_board;

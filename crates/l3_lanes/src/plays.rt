@@ -148,7 +148,8 @@ impl Split<Knowledge> for Hire {
     ghost right = { new_knowledge };
 }
 
-// The words and the slots: a word for each cell, the word for shut, the bell, and a slot for each cell.
+// The words and the slots: a word for each cell, the word for shut, the bell, and a slot for each
+// cell.
 pub(crate) type Lanes<T> = Table<Option<T>, Knowledge, usize, Rule<T>, Global>;
 
 // What a seat steps with. It takes no bytes.

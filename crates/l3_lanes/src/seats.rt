@@ -7,10 +7,12 @@ use l3_core::Numbered;
 
 /// A board without locks, of 1 to 64 cells, for one desk and 1 to 16 workers' seats.
 ///
-/// Granule i stands in cell `i mod L` alone, L being the number of cells. A cell has one word, which tells its state, and
-/// one slot for an item; an empty cell keeps a spent item. No call but `claim_wait` waits, and only `new` takes memory.
+/// Granule i stands in cell `i mod L` alone, L being the number of cells. A cell has one word,
+/// which tells its state, and one slot for an item; an empty cell keeps a spent item. No call but
+/// `claim_wait` waits, and only `new` takes memory.
 ///
-/// The calls that change the board make one history of moves, which is a run of the board machine of `l3_core`.
+/// The calls that change the board make one history of moves, which is a run of the board machine
+/// of `l3_core`.
 #[derive(Drop)]
 pub struct LaneBoard<T: Numbered> {
     pub(crate) lanes: Lanes<T>,

@@ -215,7 +215,8 @@ fn take_next<B: Board<Item = Item>>(
     tally.sum = tally.sum.saturating_add(mark);
 }
 
-// A desk, at any board: it offers granules, up to three beyond the next, takes them in order, and shuts the board.
+// A desk, at any board: it offers granules, up to three beyond the next, takes them in order, and
+// shuts the board.
 fn offer_and_take<B: Board<Item = Item>>(board: &B, desk: &mut B::Desk, granules: u64) -> Tally
     requires made { B.has_desk board.now desk.old }
     requires limit { granules ≤ 8589934592 }
@@ -261,7 +262,8 @@ fn share<B: Board<Item = Item> + Sync, R: Threads + Wait + Sync>(
     tally
 }
 
-// Granule n becomes 7 n + 3, so all from 0 to 99 come to 7 * 4950 + 300, on one thread as on any number.
+// Granule n becomes 7 n + 3, so all from 0 to 99 come to 7 * 4950 + 300, on one thread as on any
+// number.
 #[test]
 fn workers_beside_the_desk(rt: HostRuntime) -> Result<(), Fail> {
     for workers in [1, 3] {

@@ -1,4 +1,5 @@
-// What a seat knows of the board. These types serve the clauses alone: no value of them is made when the program runs.
+// What a seat knows of the board. These types serve the clauses alone: no value of them is made
+// when the program runs.
 use l3_core::{Answer, Event};
 use std::collections::LinkedList;
 
@@ -10,7 +11,8 @@ pub enum Tell {
     Held,
     /// The granule was offered.
     Told(u64),
-    /// The granule was offered, and the cell's last word that was read is that of a claimed granule.
+    /// The granule was offered, and the cell's last word that was read is that of a claimed
+    /// granule.
     ToldClaimed(u64),
     /// The granule was offered, and the cell's last word that was read is that of a ready granule.
     ToldReady(u64),
@@ -30,13 +32,13 @@ pub struct View {
     pub claim: Option<(u64, u64)>,
     /// The worker has read that its claim is withdrawn.
     pub late: bool,
-    /// The words noted at each cell and at the word for shut, the newest first. A place's count of readings is how
-    /// many there are.
+    /// The words noted at each cell and at the word for shut, the newest first. A place's count of
+    /// readings is how many there are.
     pub notes: LinkedList<LinkedList<u64>>,
 }
 
-/// A move on the board: a call that changed it, with its answer. An item stands as the number of its granule, and a
-/// spent one as any number.
+/// A move on the board: a call that changed it, with its answer. An item stands as the number of
+/// its granule, and a spent one as any number.
 pub struct Move {
     /// The number of the seat that made it.
     pub seat: u64,

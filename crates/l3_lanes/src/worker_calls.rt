@@ -59,6 +59,7 @@ pub(crate) fn hand_in<T: Numbered>(
     ensures notes { (words : _) × DepositNotes number result words × Notes cell words token.old.me.0.view token.new.me.0.view }
     ensures moved { DepositMoves row.now.table_id.slots number result token.old.me.0.past token.new.me.0.past }
 {
+    // Bound for the proof alone, which names this step by it.
     let _old = row.exchange(token, cell, Some(item));
     if deposit(row, token, cell, number) == 8 * number + 2 {
         return Deposit::Kept;
