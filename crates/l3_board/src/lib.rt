@@ -2,7 +2,8 @@
 //! back in order.
 //!
 //! Before: `l3_core`, the board as a machine in one thread. After: `l3_lanes`, the same trait
-//! without locks, and the committer, which has the desk. All of it is this project's own.
+//! without locks; the encoder on several threads will have the desk. All of it is this project's
+//! own.
 //!
 //! Contracts say what an answer means: which item it hands out or back, and how it moves the desk's
 //! record and a seat's claim. Which answer a `LockBoard` gives, and that its bells wake those who

@@ -41,6 +41,7 @@ module _ {T : Type 0} (number : T → ℕ) where
     pub least : least_item (flat_map on_offer cells) ≡ Some x
 
   -- the cell and the number of the least item on offer, where one is
+  -- (only the inside of this crate)
   abbrev pub FindsLeast : List (Content T) → Option (ℕ × ℕ) → Type 0
   FindsLeast cells None = least_item (flat_map on_offer cells) ≡ None
   FindsLeast cells (Some found) = (x : T) × IsLeastAt cells found.0 found.1 x

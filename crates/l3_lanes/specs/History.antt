@@ -143,7 +143,7 @@ pub record Answers (cells : ℕ) (v : Past) (e : Event ℕ) (a : Answer ℕ) (w 
   pub mine : w.mine ≡ v.mine
   pub own : moves_of seat w.seen ≡ w.mine
 
--- a seat that has seen this past has seen no shut
+-- a seat that has seen this past has seen no shut (only the inside of this crate)
 abbrev pub HasSeenOpen : ℕ → Past → Type 0
 HasSeenOpen cells v = (board : BoardState ℕ) × IsHistory cells v.seen board × (board.shut ≡ false)
 

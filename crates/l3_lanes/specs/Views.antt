@@ -47,7 +47,7 @@ is_held (Left i) = false
 abbrev pub Knows : View → ℕ → Option ℕ → Type 0
 Knows v cell granule = (t : Tell) × (get_elem? v.tells cell ≡ some t) × (known t ≡ granule) × (is_held t ≡ false)
 
--- the desk's view after steps on a cell, of which it knows t then
+-- the desk's view after steps on a cell, of which it knows t then (only the inside of this crate)
 pub record HasTold (v : View) (cell : ℕ) (t : Tell) (w : View) : Type 0 where
   pub desk : w.desk ≡ v.desk
   pub shut : w.shut ≡ v.shut
