@@ -1,6 +1,6 @@
 -- From what an ending says of input and output, each clause of the program.
-use Rattle.std.proofs.Common.{◌≡◌, ◌⊎◌, ℕ, ◌≤◌, List, refl, ap, ◌∙◌, sym, inl, inr, arith}
-use Rattle.std.specs.Prelude.{Option, Some, None, IfSome, IsSome, IsSomeAnd, ◌↔◌, Result, Ok, Err, OnErr}
+use Rattle.std.proofs.Common.{◌≡◌, ◌⊎◌, ℕ, List, refl, ap, ◌∙◌, sym, inl, inr, arith}
+use Rattle.std.specs.Prelude.{Option, Some, None, IfSome, IsSome, IsSomeAnd, Result, Ok, Err, OnErr}
 use Rattle.std.proofs.lemmas.Option.{IfSome_then}
 use Rattle.l3_io.specs.Causes.{IsSteady, count_after}
 use Rattle.l3_io.specs.Taken.{Takes, TakesPrefix, Stands, Writes}
@@ -23,7 +23,7 @@ use Rattle.mp3enc.specs.declared.words.Command.{Command}
 use Rattle.mp3enc.specs.declared.words.Command.TheVariants.{Encode, Check}
 use Rattle.mp3enc.specs.Check.{frames_limit, reading_in, deviation_in, line_by, line_in}
 use Rattle.mp3enc.specs.Status.{status_of, refusal_of}
-use Rattle.mp3enc.specs.Program.{Does, Encodes, Ends, EndsUntouched, IsRefused, Leaves, MayCome, failed_reads_at, failed_writes_at, output_of}
+use Rattle.mp3enc.specs.Program.{Does, Encodes, Ends, IsRefused, Leaves, MayCome, failed_reads_at, failed_writes_at, output_of}
 
 IfSome-always : {X : Type 0} (o : Option X) (P : X → Type 0) → ((x : X) → P x) → IfSome o P
 IfSome-always None P h = tt

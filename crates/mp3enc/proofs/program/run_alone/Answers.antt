@@ -1,5 +1,4 @@
-use Rattle.std.proofs.Common.{rules, ◌≡◌, ap, inl, inr, refl}
-use Rattle.std.specs.Prelude.{Some}
+use Rattle.std.proofs.Common.{ap, inl, inr, refl}
 use Rattle.l3_encoder.specs.Changes.{SourceChange, SinkChange, source_change, sink_change}
 use Rattle.mp3enc.proofs.StatusLemmas as lemmas
 use Rattle.mp3enc.specs.Program.{Does}
