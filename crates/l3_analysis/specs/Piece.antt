@@ -93,8 +93,8 @@ abbrev pub with_memo : PieceView → ℕ → List LaneView → PieceView
 with_memo v channel memo = record v { memos = slice_set v.memos channel memo }
 
 -- there are two memos, and their first lanes are under no amplification; where the spectra are
--- there, a memo's counts are those of its channel's spectrum; before that, and for a channel that is
--- not there, it has none
+-- there, a memo's counts are those of its channel's spectrum; before that, and for a channel that
+-- is not there, it has none
 pub record IsSound (v : PieceView) : Type 0 where
   pub two : length v.memos ≡ 2
   pub plain : (channel : ℕ) → (lane_of (memo_in v channel) 0).amp ≡ no_amp

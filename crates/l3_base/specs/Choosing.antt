@@ -1,4 +1,5 @@
--- Choosing among candidates: the first of least cost, the least number that passes a test, the greatest that does.
+-- Choosing among candidates: the first of least cost, the least number that passes a test, the
+-- greatest that does.
 use Rattle.std.specs.Prelude.{◌≡◌, ℕ, zero, suc, ◌<◌, ◌≤◌, Bool, true, false, List, [], ◌∷◌, ◌++◌, All, nat_le, if◌then◌else◌}
 
 -- the first candidate of least cost, of the first one and the others in their order
@@ -31,7 +32,8 @@ unfoldable pub greatest_passing : ℕ → (ℕ → Bool) → ℕ
 greatest_passing zero passes = 0
 greatest_passing (suc n) passes = if passes n then n else greatest_passing n passes
 
--- what that means: where some number below the limit passes, the chosen one does and is no less; else it is 0
+-- what that means: where some number below the limit passes, the chosen one does and is no less;
+-- else it is 0
 pub record IsGreatestPassing (limit : ℕ) (passes : ℕ → Bool) (chosen : ℕ) : Type 0 where
   pub greatest : (k : ℕ) → k < limit → passes k ≡ true → (k ≤ chosen) × (chosen < limit) × (passes chosen ≡ true)
   pub none : ((k : ℕ) → k < limit → passes k ≡ false) → chosen ≡ 0

@@ -3,8 +3,8 @@
 //!
 //! The board is a machine over events, with no thread in it. Granule i stands in cell `i mod L` of
 //! L cells.
-//! Before: nothing. After: `l3_board`, a board that threads share, each of whose calls is one event,
-//! and `l3_analysis`, whose pieces lie on it.
+//! Before: nothing. After: `l3_board`, a board that threads share, each of whose calls is one
+//! event, and `l3_analysis`, whose pieces lie on it.
 //! The board and its events are this project's own.
 #![tactic(auto)]
 

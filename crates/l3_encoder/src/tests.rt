@@ -158,8 +158,8 @@ fn one_zero_sample_and_faults(rt: HostRuntime) -> Result<(), Fail> {
     let mut whole = zeros(rt.alloc(), &MONO, 2)?;
     whole.extend_from_slice(b"rest")?;
 
-    // The file cut to this length, the read that fails, room in the sink, the answer, how many bytes
-    // were written and how many are left.
+    // The file cut to this length, the read that fails, room in the sink, the answer, how many
+    // bytes were written and how many are left.
     for (there, fails, room, wanted, written, left) in [
         (50, 1000, 10000, report(2, 4), 835, 4),
         (

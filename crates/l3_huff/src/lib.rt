@@ -3,8 +3,8 @@
 //! The code tables are those of Layer III (ISO/IEC 11172-3, Annex B), as far as the profile has
 //! them.
 //! Each is proved to be a complete prefix code, so what is written is read again in one way only.
-//! Before: `l3_bits`, lists of bits. After: `l3_region`, which chooses tables, and `l3_stream`, whose
-//! main data these codes are.
+//! Before: `l3_bits`, lists of bits. After: `l3_region`, which chooses tables, and `l3_stream`,
+//! whose main data these codes are.
 #![tactic(auto)]
 
 mod bits_ahead;

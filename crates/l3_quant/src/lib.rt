@@ -1,12 +1,11 @@
 //! The quantiser: 576 lines and a gain -> 576 whole numbers.
 //!
 //! The spectrum of one channel of one granule -> its quantised values at a `global_gain`, which for
-//! each amplified band is lowered, these cut at 15 with the greatest one of each band, and the least
-//! gain at which all can be coded; and a quantised value -> the line that it stands for.
-//! Before: `l3_mdct`, the spectrum. After: `l3_count` and `l3_search`, which count and pick. The power
-//! law is that of Layer III
-//! (ISO/IEC 11172-3, 2.4, the requantisation turned round); the whole-number form and the rounding
-//! constant 13/32 are this project's own.
+//! each amplified band is lowered, these cut at 15 with the greatest one of each band, and the
+//! least gain at which all can be coded; and a quantised value -> the line that it stands for.
+//! Before: `l3_mdct`, the spectrum. After: `l3_count` and `l3_search`, which count and pick. The
+//! power law is that of Layer III (ISO/IEC 11172-3, 2.4, the requantisation turned round); the
+//! whole-number form and the rounding constant 13/32 are this project's own.
 #![tactic(auto)]
 
 mod bands;

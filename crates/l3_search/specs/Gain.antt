@@ -35,8 +35,8 @@ gains_from first last = range_with_len first (last + 1 - first)
 unfoldable pub lacking : List (Option Counted) → (first last : ℕ) → ℕ
 lacking counts first last = count_by (λ gain. is_none (kept_at counts gain)) (gains_from first last)
 
--- a count is the spectrum's own under the amplification at its gain, it is within the budget, and no
--- lesser gain has one that is
+-- a count is the spectrum's own under the amplification at its gain, it is within the budget, and
+-- no lesser gain has one that is
 pub record IsLeastWithin (edges amp : List ℕ) (lines : List ℤ) (budget : ℕ) (c : Counted) : Type 0 where
   pub under : c.amp ≡ amp
   pub own : count_of edges amp lines c.gain ≡ Some c

@@ -20,7 +20,8 @@ edge_at rate band = slice_index (edges_at rate) band
 abbrev pub band_width : ℕ → ℕ → ℕ
 band_width rate band = edge_at rate (band + 1) - edge_at rate band
 
--- 22 bands of at least one line cover the 576 lines, and none but the last may be narrower than the one before
+-- 22 bands of at least one line cover the 576 lines, and none but the last may be narrower than the
+-- one before
 pub record AreBands (rate : ℕ) : Type 0 where
   pub count : length (edges_at rate) ≡ 23
   pub from_the_first_line : edge_at rate 0 ≡ 0

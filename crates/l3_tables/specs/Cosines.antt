@@ -3,7 +3,8 @@ use Rattle.std.specs.Prelude.{◌≡◌, ℕ, ◌-◌, ◌*◌, ◌/◌, ◌%◌
 use Rattle.l3_tables.specs.declared.cosines.TheConstants.{K64, K72}
 use Rattle.l3_tables.specs.Lists.{entry}
 
--- r steps into a half circle: the table over its first half, the table backwards with the other sign over the rest
+-- r steps into a half circle: the table over its first half, the table backwards with the other
+-- sign over the rest
 abbrev pub on_half_circle : List ℤ → ℕ → ℕ → ℤ
 on_half_circle table half r = if nat_le r (half / 2) then entry table r else neg_ℤ (entry table (half - r))
 
@@ -19,7 +20,8 @@ cosine64 m = on_half_circle K64 64 (steps_apart 64 m)
 unfoldable pub cosine72 : ℤ → ℤ
 cosine72 m = on_half_circle K72 72 (steps_apart 72 m)
 
--- a table of a quarter circle goes on so: odd about the quarter, even about the start, and anew after each circle
+-- a table of a quarter circle goes on so: odd about the quarter, even about the start, and anew
+-- after each circle
 pub record IsExtended (table : List ℤ) (half : ℕ) (f : ℤ → ℤ) : Type 0 where
   pub printed : (m : ℕ) → m ≤ half / 2 → f (pos m) ≡ entry table m
   pub turned : (m : ℤ) → f (pos half -ℤ m) ≡ neg_ℤ (f m)

@@ -24,7 +24,8 @@ FloorIsGreatest = (x q : ℤ) (n : ℕ) → 0 < n → (q ≤ℤ floor_div x n) �
 abbrev pub IsWithin : ℕ → ℤ → Type 0
 IsWithin bound x = unsigned_abs x ≤ bound
 
--- what the first n entries of a table add up to: as they are, by absolute value, and each times its place, counted from 1
+-- what the first n entries of a table add up to: as they are, by absolute value, and each times its
+-- place, counted from 1
 pub record AddsUpTo (n : ℕ) (f : ℕ → ℤ) (total : ℤ) (size : ℕ) (weighed : ℤ) : Type 0 where
   pub total_is : sum_below n f ≡ total
   pub size_is : size_below n f ≡ size

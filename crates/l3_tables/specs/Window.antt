@@ -15,6 +15,7 @@ window_at i = if nat_le i 256 then entry WINDOW i else signed_at i (entry WINDOW
 abbrev pub WindowIsPrinted : Type 0
 WindowIsPrinted = (i : ℕ) → i ≤ 256 → window_at i ≡ entry WINDOW i
 
--- the entries about the middle one are the same but for the sign, and that too where 64 divides the place
+-- the entries about the middle one are the same but for the sign, and that too where 64 divides the
+-- place
 abbrev pub WindowIsMirrored : Type 0
 WindowIsMirrored = (i : ℕ) → 0 < i → i < 256 → window_at (512 - i) ≡ signed_at i (window_at i)

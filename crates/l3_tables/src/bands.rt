@@ -2,9 +2,11 @@ ghost use Rattle.std.specs.Prelude.{◌≡◌, ◌<◌, ◌≤◌, pos};
 ghost use Rattle.l3_tables.specs.Sums.{AddsUpTo};
 ghost use Rattle.l3_tables.specs.Bands.{edges_at, edge_at, AreBands, numbers, slen_part};
 
-/// The first lines of the 22 bands of long blocks and the end of the last one, at 44100, 48000 and 32000 Hz.
+/// The first lines of the 22 bands of long blocks and the end of the last one, at 44100, 48000 and
+/// 32000 Hz.
 ///
-/// ISO/IEC 11172-3, Annex B, has bands 0 to 20; to count the lines above them as band 21 is this project's own.
+/// ISO/IEC 11172-3, Annex B, has bands 0 to 20; to count the lines above them as band 21 is this
+/// project's own.
 #[rattlefmt::skip]
 pub static EDGES: [[u16; 23]; 3] = [
     [0, 4, 8, 12, 16, 20, 24, 30, 36, 44, 52, 62, 74, 90, 110, 134, 162, 196, 238, 288, 342, 418, 576],

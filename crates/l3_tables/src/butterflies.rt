@@ -3,13 +3,15 @@ ghost use Rattle.l3_tables.specs.Lists.{entry};
 ghost use Rattle.l3_tables.specs.Sums.{AddsUpTo, IsWithin};
 ghost use Rattle.l3_tables.specs.Steps.{cs_at, ca_at};
 
-/// The greater coefficients of the alias reduction's eight butterflies, times 2^15. This project's own.
+/// The greater coefficients of the alias reduction's eight butterflies, times 2^15. This project's
+/// own.
 #[rattlefmt::skip]
 pub static CS: [i32; 8] = [
     28098, 28893, 31117, 32221, 32621, 32740, 32765, 32768,
 ];
 
-/// The smaller coefficients of the alias reduction's eight butterflies, times 2^15. This project's own.
+/// The smaller coefficients of the alias reduction's eight butterflies, times 2^15. This project's
+/// own.
 #[rattlefmt::skip]
 pub static CA: [i32; 8] = [
     -16859, -15458, -10269, -5961, -3099, -1342, -465, -121,

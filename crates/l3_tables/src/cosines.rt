@@ -15,7 +15,8 @@ pub static K64: [i32; 33] = [
     0,
 ];
 
-// The whole circle of 128 steps: the form that runs, read by `k64`, which proves it to be what the quarter stands for.
+// The whole circle of 128 steps: the form that runs, read by `k64`, which proves it to be what the
+// quarter stands for.
 #[rattlefmt::skip]
 static CIRCLE64: [i32; 128] = [
     32768, 32729, 32610, 32413, 32138, 31786, 31357, 30853,
@@ -48,7 +49,8 @@ pub static K72: [i32; 37] = [
     0,
 ];
 
-// The whole circle of 144 steps: the form that runs, read by `k72`, which proves it to be what the quarter stands for.
+// The whole circle of 144 steps: the form that runs, read by `k72`, which proves it to be what the
+// quarter stands for.
 #[rattlefmt::skip]
 static CIRCLE72: [i32; 144] = [
     32768, 32737, 32643, 32488, 32270, 31991, 31651, 31251, 30792,

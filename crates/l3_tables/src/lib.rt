@@ -1,11 +1,11 @@
-//! Constants of the transforms, of the gains and of the bands, and the definition of the filterbank's
-//! slots.
+//! Constants of the transforms, of the gains and of the bands, and the definition of the
+//! filterbank's slots.
 //!
 //! Nothing -> numbers. Before: `l3_base`, the sampling frequencies and rates. After: the transforms
 //! (`l3_polyphase`, `l3_mdct`), all that reads bands (`l3_energy`, `l3_quant`, `l3_region`,
 //! `l3_stream`) and what stands on these.
-//! Beside each table stands what its entries add up to, taken from a count made apart from this text,
-//! so that a mistyped or moved entry is refused.
+//! Beside each table stands what its entries add up to, taken from a count made apart from this
+//! text, so that a mistyped or moved entry is refused.
 #![tactic(auto)]
 
 mod bands;

@@ -44,7 +44,8 @@ pub static WINDOW: [i32; 257] = [
     75038,
 ];
 
-// All 512 entries: the form that runs, read by `w`, which proves it to be what the printed one stands for.
+// All 512 entries: the form that runs, read by `w`, which proves it to be what the printed one
+// stands for.
 #[rattlefmt::skip]
 static WHOLE_WINDOW: [i32; 512] = [
     0, -1, -1, -1, -1, -1, -1, -2,
@@ -113,7 +114,8 @@ static WHOLE_WINDOW: [i32; 512] = [
     2, 2, 1, 1, 1, 1, 1, 1,
 ];
 
-/// Entry `i` of the window's 512: for i from 1 to 255, entry 512 - i is entry i, negated unless 64 divides i.
+/// Entry `i` of the window's 512: for i from 1 to 255, entry 512 - i is entry i, negated unless 64
+/// divides i.
 #[inline(always)]
 pub fn w(i: usize) -> i32
     requires { i < 512 }

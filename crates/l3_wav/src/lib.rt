@@ -1,7 +1,7 @@
 //! Bytes of a WAV file -> its head, and its samples in order.
 //!
-//! Before: `l3_io`, sources of bytes. After: `l3_commit`, which takes the samples, and `l3_encoder`,
-//! which reads the file.
+//! Before: `l3_io`, sources of bytes. After: `l3_commit`, which takes the samples, and
+//! `l3_encoder`, which reads the file.
 #![tactic(auto)]
 
 mod block;
