@@ -1,4 +1,4 @@
-use crate::{ChosenFrame, Regions, StreamFault, Unit, is_coded};
+use crate::{ChosenFrame, StreamFault, Unit, is_coded};
 use l3_base::{Channels, Rate, SampleRate, Settings};
 
 // The pair (1, 0) in table 1 is 010, and the quadruple (0, 0, 0, -1) in table A is 01011.
@@ -84,18 +84,5 @@ fn fault_numbers(rt: HostRuntime) {
     ];
     for (fault, number) in cases {
         assert_eq!(rt; fault.number(), number, "{fault}");
-    }
-}
-
-// The first lines of bands at 44100 Hz are 0, 4, 8, 12, 16, 20, 24, 30, 36 and so on.
-#[test]
-fn tables_by_line(rt: HostRuntime) {
-    let mut unit = Unit::blank();
-    unit.region0 = 3;
-    unit.region1 = 2;
-    unit.tables = [1, 2, 3];
-    let regions = Regions::of(&settings_of(Channels::Stereo), &unit);
-    for (line, table) in [(0, 1), (14, 1), (16, 2), (28, 2), (30, 3), (574, 3)] {
-        assert_eq!(rt; regions.table(line), table, "line {line}");
     }
 }
