@@ -4,7 +4,7 @@ use Rattle.std.specs.Prelude.{ℤ, true, false}
 use Rattle.l3_base.specs.declared.settings.Settings.{Settings}
 use Rattle.l3_base.specs.declared.rate.Channels.{Channels}
 use Rattle.l3_base.specs.declared.rate.Channels.TheVariants.{Mono, Stereo}
-use Rattle.l3_base.specs.Lengths.{mmax_of}
+use Rattle.l3_base.specs.Lengths.{mmax_of, granules_for}
 use Rattle.l3_mdct.specs.Spectrum.{spectrum_of_granule}
 use Rattle.l3_reservoir.specs.Budget.{begin_after}
 use Rattle.l3_stream.specs.declared.unit.Unit.{Unit}
@@ -13,7 +13,7 @@ use Rattle.l3_commit.specs.Choice.{Spectra, granule_by, reserve_by, granule_chos
 use Rattle.l3_commit.specs.Tried.{granule_tried_by, granule_tried, tried_at}
 use Rattle.l3_commit.specs.Encoding.{of_channel, spectra_of}
 use Rattle.l3_commit.specs.Tracks.{TrackView, first_track, next_of, with_granule, with_frame_ended}
-use Rattle.l3_commit.specs.Standing.{CommitterView, HasCommitted, IsProgress, AreSameSpectra, StandsFor, StillStands, granules_for, total_of, spectra_at_hand, right_lines_of, gathered, granule_committed, frame_committed}
+use Rattle.l3_commit.specs.Standing.{CommitterView, HasCommitted, IsProgress, AreSameSpectra, StandsFor, StillStands, total_of, spectra_at_hand, right_lines_of, gathered, granule_committed, frame_committed}
 
 -- ---- the spectra of channels that are not there do not count
 

@@ -1,17 +1,12 @@
 -- The encoding of samples: the stream that their chosen frames spell.
 use Rattle.std.specs.Prelude.{ℕ, zero, suc, ◌+◌, ◌==◌, List, length, ℤ, if◌then◌else◌}
-use Rattle.std.specs.Int.{div_ceil}
 use Rattle.l3_base.specs.declared.settings.Settings.{Settings}
+use Rattle.l3_base.specs.Lengths.{frames_for}
 use Rattle.l3_mdct.specs.Spectrum.{spectrum_of_granule}
 use Rattle.l3_stream.specs.declared.unit.ChosenFrame.{ChosenFrame}
 use Rattle.l3_stream.specs.Tape.{stream_of}
 use Rattle.l3_commit.specs.Choice.{Spectra, frames_before}
 use Rattle.l3_commit.specs.Tried.{tried_before}
-
--- frames for so many samples of each channel: as many as they fill, 1152 to a frame and the last
--- perhaps in part, and one more for what the transform gives late; none where there are no samples
-abbrev pub frames_for : ℕ → ℕ
-frames_for samples = if samples == 0 then 0 else div_ceil samples 1152 + 1
 
 -- of two channels, the left one for 0 and the right one for all others
 abbrev pub of_channel : {A : Type 0} → (left right : A) → ℕ → A

@@ -1,7 +1,7 @@
 -- Laws of the chosen frames, each carried by a function of src/laws.rt.
 use Rattle.std.specs.Prelude.{◌≡◌, ℕ, ◌≤◌, ◌^◌, List, All, length, ℤ}
 use Rattle.l3_base.specs.declared.settings.Settings.{Settings}
-use Rattle.l3_base.specs.Lengths.{mmax_of, slots_before}
+use Rattle.l3_base.specs.Lengths.{mmax_of, slots_before, frames_for}
 use Rattle.l3_base.specs.Spectrum.{IsSpectrum}
 use Rattle.l3_tables.specs.Sums.{IsWithin}
 use Rattle.l3_stream.specs.declared.unit.ChosenFrame.{ChosenFrame}
@@ -10,7 +10,7 @@ use Rattle.l3_stream.specs.Frames.{units_of, code_bits, IsCoded}
 use Rattle.l3_stream.specs.StreamLaws.{AreSame}
 use Rattle.l3_stream.specs.Tape.{FramesFit, Spells, CanFollow}
 use Rattle.l3_commit.specs.Choice.{Spectra, begin_before, frame_chosen, frames_before}
-use Rattle.l3_commit.specs.Encoding.{frames_for, frames_chosen, encoding_of}
+use Rattle.l3_commit.specs.Encoding.{frames_chosen, encoding_of}
 
 -- each is 576 lines, each below 2^29 in absolute value
 abbrev pub AreSpectra : Spectra → Type 0

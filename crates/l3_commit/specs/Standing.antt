@@ -3,10 +3,11 @@ use Rattle.std.specs.Prelude.{◌≡◌, ℕ, ◌*◌, ◌≤◌, Bool, true, fa
 use Rattle.l3_base.specs.declared.settings.Settings.{Settings}
 use Rattle.l3_base.specs.declared.rate.Channels.{Channels}
 use Rattle.l3_base.specs.declared.rate.Channels.TheVariants.{Mono, Stereo}
+use Rattle.l3_base.specs.Lengths.{granules_for}
 use Rattle.l3_mdct.specs.Spectrum.{spectrum_of_granule}
 use Rattle.l3_stream.specs.declared.unit.Unit.{Unit}
 use Rattle.l3_commit.specs.Choice.{Spectra, reserve_at_start, reserve_between, reserve_at_end, first_granule, second_granule, begin_before}
-use Rattle.l3_commit.specs.Encoding.{frames_for, of_channel, spectra_of}
+use Rattle.l3_commit.specs.Encoding.{of_channel, spectra_of}
 use Rattle.l3_commit.specs.Tracks.{TrackView, next_of, with_granule, with_frame_ended}
 
 -- a committer as contracts see it
@@ -23,10 +24,6 @@ pub record CommitterView : Type 0 where
 abbrev pub IsRightOf : Channels → (left right : List ℤ) → Type 0
 IsRightOf Mono left right = length right ≡ 0
 IsRightOf Stereo left right = length right ≡ length left
-
--- two granules to a frame
-abbrev pub granules_for : ℕ → ℕ
-granules_for samples = 2 * frames_for samples
 
 -- how many granules are to be committed
 abbrev pub total_of : CommitterView → ℕ

@@ -1,14 +1,14 @@
 ghost use Rattle.std.specs.Prelude.{◌≡◌, ◌+◌, ◌*◌, ◌≤◌, ◌<◌, ◌^◌, ◌++◌, ◌∷◌, [], ℕ, ℤ, List, length, true, false, IfSome, IfNone};
 ghost use Rattle.std.specs.Borrow.{sem};
-ghost use Rattle.l3_base.specs.Lengths.{mmax_of};
+ghost use Rattle.l3_base.specs.Lengths.{mmax_of, frames_for, granules_for};
 ghost use Rattle.l3_base.specs.declared.settings.Settings.{Settings};
 ghost use Rattle.l3_mdct.specs.Spectrum.{spectrum_of_granule};
 ghost use Rattle.l3_reservoir.specs.Budget.{begin_after};
 ghost use Rattle.l3_stream.specs.declared.unit.ChosenFrame.{ChosenFrame};
 ghost use Rattle.l3_commit.specs.Choice.{frame_chosen};
-ghost use Rattle.l3_commit.specs.Encoding.{frames_for, spectra_of};
+ghost use Rattle.l3_commit.specs.Encoding.{spectra_of};
 ghost use Rattle.l3_stream.specs.Tape.{CanFollow};
-ghost use Rattle.l3_commit.specs.Standing.{IsRightOf, StandsFor, StillStands, gathered, granule_committed, frame_committed, granules_for, total_of};
+ghost use Rattle.l3_commit.specs.Standing.{IsRightOf, StandsFor, StillStands, gathered, granule_committed, frame_committed, total_of};
 ghost use Rattle.l3_commit.specs.Tracks.{first_track, next_of};
 ghost use Rattle.l3_commit.specs.Tried.{tried_at};
 

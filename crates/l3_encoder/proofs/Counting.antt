@@ -3,10 +3,11 @@ use Rattle.std.proofs.Common.{◌≡◌, ◌∙◌, sym, ap, ℕ, zero, suc, ◌
 use Rattle.std.specs.Prelude.{ℤ, nat_eq}
 use Rattle.std.proofs.lemmas.Bool.{cases_Bool}
 use Rattle.l3_base.specs.declared.settings.Settings.{Settings}
+use Rattle.l3_base.specs.Lengths.{frames_for}
 use Rattle.l3_stream.specs.declared.unit.Unit.{Unit}
 use Rattle.l3_commit.specs.Choice.{Spectra}
 use Rattle.l3_commit.specs.Tried.{tried_at, tried_before}
-use Rattle.l3_commit.specs.Encoding.{spectra_of, frames_for, gains_tried}
+use Rattle.l3_commit.specs.Encoding.{spectra_of, gains_tried}
 use Rattle.l3_commit.specs.Tracks.{TrackView, first_track, next_of}
 use Rattle.l3_commit.specs.Standing.{CommitterView, gathered, granule_committed, frame_committed}
 use Rattle.l3_encoder.proofs.Going.{few-even, few-odd}

@@ -8,7 +8,7 @@ use Rattle.std.proofs.lemmas.Option.{same_Some}
 use Rattle.std.proofs.lemmas.List.Elements.{All-weaker}
 use Rattle.l3_base.specs.declared.rate.Rate.{Rate}
 use Rattle.l3_base.specs.declared.settings.Settings.{Settings}
-use Rattle.l3_base.specs.Lengths.{slots_before}
+use Rattle.l3_base.specs.Lengths.{slots_before, frames_for}
 use Rattle.l3_wav.specs.declared.head.WavHead.{WavHead}
 use Rattle.l3_wav.specs.declared.fault.WavFault.{WavFault}
 use Rattle.l3_wav.specs.Wav.{wav_of}
@@ -17,7 +17,7 @@ use Rattle.l3_stream.specs.declared.unit.ChosenFrame.{ChosenFrame}
 use Rattle.l3_stream.specs.Tape.{FitsAt, FramesFit, end_of}
 use Rattle.l3_stream.specs.Deviation.{content_of, reading_of, fault_in, deviation_of}
 use Rattle.l3_stream.proofs.StreamReading.{reading_again}
-use Rattle.l3_commit.specs.Encoding.{frames_for, frames_chosen, encoding_of}
+use Rattle.l3_commit.specs.Encoding.{frames_chosen, encoding_of}
 use Rattle.l3_commit.specs.Laws.{AreSamples}
 use Rattle.l3_commit.proofs.Encodings.{chosen-fit, chosen-alone}
 use Rattle.l3_encoder.specs.Encoded.{settings_with, left_in, right_in, encoding_by}

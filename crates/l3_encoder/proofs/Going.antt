@@ -3,6 +3,7 @@ use Rattle.std.proofs.Common.{◌≡◌, ◌∙◌, sym, ap, subst, refl, ℕ, z
 use Rattle.std.proofs.lemmas.List.{append-nil}
 use Rattle.std.specs.Prelude.{ℤ, Bool, true, false, Result}
 use Rattle.l3_base.specs.declared.settings.Settings.{Settings}
+use Rattle.l3_base.specs.Lengths.{frames_for}
 use Rattle.l3_io.specs.Taken.{Takes, TakesPrefix, Writes}
 use Rattle.l3_io.proofs.TakenLemmas.{Takes-then, Writes-then}
 use Rattle.l3_stream.specs.declared.unit.Unit.{Unit}
@@ -10,7 +11,7 @@ use Rattle.l3_stream.specs.declared.unit.ChosenFrame.{ChosenFrame}
 use Rattle.l3_stream.specs.Tape.{FitsAt, end_of, stream_of, end_after}
 use Rattle.l3_frames.specs.Writing.{Writing, FitBehind, GivesFirst, GivesFront, owed}
 use Rattle.l3_commit.specs.Choice.{Spectra, frame_chosen, frames_before}
-use Rattle.l3_commit.specs.Encoding.{spectra_of, frames_for, frames_chosen, encoding_of}
+use Rattle.l3_commit.specs.Encoding.{spectra_of, frames_chosen, encoding_of}
 use Rattle.l3_commit.specs.Laws.{AreSamples, AreSpectra}
 use Rattle.l3_commit.specs.Tracks.{TrackView, first_track, next_of}
 use Rattle.l3_commit.specs.Standing.{CommitterView, StandsFor, StillStands, total_of, gathered, granule_committed, frame_committed}

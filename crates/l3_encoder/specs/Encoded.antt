@@ -3,6 +3,7 @@
 use Rattle.std.specs.Prelude.{◌≡◌, ◌≢◌, ℕ, ◌-◌, List, length, drop, ℤ, Option, Some, None, Result, Ok, Err, IfSome, IsSomeAnd}
 use Rattle.l3_base.specs.declared.rate.Rate.{Rate}
 use Rattle.l3_base.specs.declared.settings.Settings.{Settings}
+use Rattle.l3_base.specs.Lengths.{frames_for}
 use Rattle.l3_io.specs.Causes.{count_after}
 use Rattle.l3_io.specs.Taken.{Takes, TakesPrefix}
 use Rattle.l3_wav.specs.declared.head.WavHead.{WavHead}
@@ -14,7 +15,7 @@ use Rattle.l3_wav.specs.Pcm.{left_of, right_of}
 use Rattle.l3_commit.specs.declared.report.Report.{Report}
 use Rattle.l3_commit.specs.declared.report.EncodeFault.{EncodeFault}
 use Rattle.l3_commit.specs.declared.report.EncodeFault.TheVariants.{Memory, Wav, Read, Write}
-use Rattle.l3_commit.specs.Encoding.{frames_for, encoding_of, gains_tried}
+use Rattle.l3_commit.specs.Encoding.{encoding_of, gains_tried}
 use Rattle.l3_encoder.specs.Changes.{SourceChange, SinkChange}
 
 -- the settings of a file with this head, at a rate

@@ -3,7 +3,7 @@ use Rattle.std.specs.Prelude.{◌≡◌, ◌<◌, ◌≤◌, ◌^◌, ℕ, List,
 use Rattle.std.specs.List.{slice_get}
 use Rattle.l3_base.specs.declared.rate.Rate.{Rate}
 use Rattle.l3_base.specs.declared.settings.Settings.{Settings}
-use Rattle.l3_base.specs.Lengths.{slots_before}
+use Rattle.l3_base.specs.Lengths.{slots_before, frames_for}
 use Rattle.l3_wav.specs.declared.head.WavHead.{WavHead}
 use Rattle.l3_wav.specs.Laws.{AreChannels16}
 use Rattle.l3_wav.specs.Wav.{wav_of}
@@ -11,7 +11,7 @@ use Rattle.l3_stream.specs.declared.unit.ChosenFrame.{ChosenFrame}
 use Rattle.l3_stream.specs.Tape.{Spells}
 use Rattle.l3_stream.specs.Deviation.{content_of, reading_of, deviation_of}
 use Rattle.l3_stream.specs.StreamLaws.{AreSame}
-use Rattle.l3_commit.specs.Encoding.{frames_for, frames_chosen}
+use Rattle.l3_commit.specs.Encoding.{frames_chosen}
 use Rattle.l3_encoder.specs.Encoded.{settings_with, values_in, left_in, right_in, encoding_in}
 
 -- the most frames that a stream is read with

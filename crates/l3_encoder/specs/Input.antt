@@ -2,6 +2,7 @@
 use Rattle.std.specs.Prelude.{◌≡◌, ◌≢◌, ℕ, List, length, ℤ, Option, Some, Result, Ok, Err, IfSome}
 use Rattle.l3_base.specs.declared.rate.Rate.{Rate}
 use Rattle.l3_base.specs.declared.settings.Settings.{Settings}
+use Rattle.l3_base.specs.Lengths.{frames_for}
 use Rattle.l3_io.specs.Causes.{count_after}
 use Rattle.l3_io.specs.Taken.{Takes, TakesPrefix}
 use Rattle.l3_wav.specs.declared.head.WavHead.{WavHead}
@@ -10,7 +11,7 @@ use Rattle.l3_wav.specs.Wav.{wav_of}
 use Rattle.l3_commit.specs.declared.report.Report.{Report}
 use Rattle.l3_commit.specs.declared.report.EncodeFault.{EncodeFault}
 use Rattle.l3_commit.specs.declared.report.EncodeFault.TheVariants.{Memory, Wav, Read, Write}
-use Rattle.l3_commit.specs.Encoding.{frames_for, encoding_of, gains_tried}
+use Rattle.l3_commit.specs.Encoding.{encoding_of, gains_tried}
 use Rattle.l3_encoder.specs.Changes.{SourceChange, SinkChange}
 use Rattle.l3_encoder.specs.Encoded.{settings_with, left_in, right_in, rest_in, IsAccepted, HasReadSome}
 

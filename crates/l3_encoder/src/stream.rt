@@ -1,5 +1,6 @@
 ghost use Rattle.std.specs.Prelude.{◌≡◌, ◌+◌, ◌≤◌, false, IfOk, length};
-ghost use Rattle.l3_commit.specs.Encoding.{frames_for, encoding_of, gains_tried};
+ghost use Rattle.l3_base.specs.Lengths.{frames_for};
+ghost use Rattle.l3_commit.specs.Encoding.{encoding_of, gains_tried};
 ghost use Rattle.l3_commit.specs.Laws.{AreSamples};
 ghost use Rattle.l3_commit.specs.Standing.{IsRightOf, StandsFor};
 ghost use Rattle.l3_commit.specs.Tracks.{first_track};

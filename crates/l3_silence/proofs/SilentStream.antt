@@ -9,7 +9,7 @@ use Rattle.l3_base.specs.declared.rate.Channels.{Channels}
 use Rattle.l3_base.specs.declared.rate.Channels.TheVariants.{Mono, Stereo}
 use Rattle.l3_base.specs.Rates.{head_bytes_of}
 use Rattle.l3_base.specs.Header.{header_bits}
-use Rattle.l3_base.specs.Lengths.{is_padded, frame_bytes_of, slot_bytes_of, slots_before, mmax_of}
+use Rattle.l3_base.specs.Lengths.{is_padded, frame_bytes_of, slot_bytes_of, slots_before, mmax_of, frames_for}
 use Rattle.l3_stream.specs.Units.{pairs_code, quads_code, pairs_of, quads_of, unit_bits}
 use Rattle.l3_stream.specs.Frames.{blank, units_number, units_of, units_bits, code_bits}
 use Rattle.l3_stream.specs.Header.{header_at}
@@ -21,7 +21,7 @@ use Rattle.l3_stream.proofs.Tape.{slots-suc, start_within}
 use Rattle.l3_silence.specs.Silence.{begin_of, silent_frame, silence_of}
 use Rattle.l3_frames.proofs.PackingLemmas.{packed-zeros}
 use Rattle.l3_frames.proofs.SlotLemmas.{slot_range, slots-spread}
-use Rattle.l3_commit.specs.Encoding.{frames_for, spectra_of, frames_chosen}
+use Rattle.l3_commit.specs.Encoding.{spectra_of, frames_chosen}
 use Rattle.l3_silence.specs.Silent.{AreSilent, ZerosEncodeToSilence}
 use Rattle.l3_silence.proofs.SilentSpectrum.{spectrum-zero}
 use Rattle.l3_silence.proofs.SilentFrames.{NoSpectra, blank_granule, silent_chosen, silent_from, frames-silent}

@@ -3,8 +3,9 @@ use Rattle.std.specs.Prelude.{◌≡◌, List, ℤ, pos, length, All}
 use Rattle.l3_base.specs.declared.settings.Settings.{Settings}
 use Rattle.l3_base.specs.declared.rate.Channels.{Channels}
 use Rattle.l3_base.specs.declared.rate.Channels.TheVariants.{Mono, Stereo}
+use Rattle.l3_base.specs.Lengths.{frames_for}
 use Rattle.l3_silence.specs.Silence.{silence_of}
-use Rattle.l3_commit.specs.Encoding.{frames_for, encoding_of}
+use Rattle.l3_commit.specs.Encoding.{encoding_of}
 
 -- all of these samples are 0
 abbrev pub AreZero : List ℤ → Type 0
