@@ -1,0 +1,4 @@
+mod GoneLemmas
+mod HoldLemmas
+mod ReadLemmas
+mod WindowLemmas

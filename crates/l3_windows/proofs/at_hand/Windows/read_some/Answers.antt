@@ -1,0 +1,24 @@
+use Rattle.std.proofs.Common.{◌≡◌, ◌+◌, false, nat_lt, refl, sym, subst}
+use Rattle.l3_windows.specs.Holding.{WindowsView, GoesOn}
+use Rattle.l3_windows.proofs.HoldLemmas.{goes-on-by}
+use Rattle.l3_windows.proofs.at_hand.Windows.read_some.Goals as goal
+
+pub returns-clause-content : goal.returns-clause-content
+returns-clause-content g c =
+    let left = g.S.Source.left in
+    let w = c.self.inside in
+    let is_short = nat_lt c.in_ok-count.count c.min-room.result in
+    let old : WindowsView = record { channels = w.channels; ahead = w.ahead; base = w.base; read = w.read; ended = w.ended; samples = w.samples; left = w.left.items; right = w.right.items } in
+    let new : WindowsView = record {
+      channels = w.channels;
+      ahead = w.ahead;
+      base = w.base;
+      read = w.read + c.in_ok-count.count;
+      ended = is_short;
+      samples = c.read_block.new.samples;
+      left = c.read_block.new.left.items;
+      right = c.read_block.new.right.items;
+    } in
+    let going : w.ended ≡ false = subst (λ (v : WindowsView). v.ended ≡ false) (sym c.self.view_is) c.requires.going in
+    subst (λ (v : WindowsView). GoesOn v new (left c.args.source.now) (left c.read_block.new.source)) c.self.view_is
+    (goes-on-by old new (left c.args.source.now) (left c.read_block.new.source) c.in_ok-count.count is_short refl refl refl refl going (c.self.invariant.near going) c.in_ok-count.ensures.content)
