@@ -1,5 +1,5 @@
 -- What the words for scale factors mean.
-use Rattle.std.specs.Prelude.{◌≡◌, ◌≢◌, ◌<◌, ◌≤◌, ℕ, true, List}
+use Rattle.std.specs.Prelude.{◌≡◌, ◌<◌, ◌≤◌, ℕ, true, List}
 use Rattle.l3_base.specs.Amp.{IsAmp, no_amp}
 use Rattle.l3_noise.specs.Noise.{compress_of, holds_amp, scalefactor_bits}
 

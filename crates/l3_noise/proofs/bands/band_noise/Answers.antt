@@ -2,7 +2,7 @@ use Rattle.std.proofs.Common.{rules, FitsSigned, w16, to_z, of_z, arith, ap, sym
 use Rattle.std.proofs.lemmas.Int.{to_z-of_z}
 use Rattle.std.specs.Prelude.{slice_range}
 use Rattle.std.specs.List.{sum_by}
-use Rattle.l3_tables.specs.Bands.{edge_at, edges_at}
+use Rattle.l3_tables.specs.Bands.{edge_at}
 use Rattle.l3_tables.proofs.Edges.{edge_rises}
 use Rattle.l3_quant.specs.Quantiser.{quantised_lines}
 use Rattle.l3_quant.specs.Amplified.{band_gain}

@@ -1,4 +1,4 @@
-use Rattle.std.proofs.Common.{arith, ap, sym, subst, ◌≡◌, ◌∙◌, true, inl, inr, List, ℕ, ℤ, pos}
+use Rattle.std.proofs.Common.{arith, ap, sym, subst, ◌≡◌, ◌∙◌, true, inl, inr, ℕ, pos}
 use Rattle.std.proofs.lemmas.Bool.{cases_Bool, OnFalse_at, OnTrue_at}
 use Rattle.l3_base.specs.Rates.{hertz_index_of}
 use Rattle.l3_tables.specs.Bands.{band_edges, edges_at}

@@ -1,4 +1,4 @@
-use Rattle.std.proofs.Common.{rules, FitsSigned, w16, w32, to_z, of_z, ◌≡◌, ◌+◌, ◌<◌, arith, ap, sym, ◌∙◌, get_or, length, take, pos}
+use Rattle.std.proofs.Common.{rules, FitsSigned, w16, w32, to_z, of_z, ◌≡◌, arith, ap, sym, ◌∙◌, get_or, pos}
 use Rattle.std.specs.List.{sum_by}
 use Rattle.std.proofs.lemmas.Int.{to_z-of_z}
 use Rattle.std.proofs.lemmas.List.{get_or-map, take_all}
