@@ -1,3 +1,4 @@
 pub mod Stages
 pub mod Presuming
 pub mod Sound
+mod RoundLemmas

@@ -26,3 +26,5 @@ pub mod Analysis
 pub mod Lending
 pub mod Piece
 pub mod Presumed
+pub use Rattle.l3_noise.specs.Noise
+pub mod Rounds

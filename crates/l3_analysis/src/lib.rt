@@ -11,11 +11,13 @@
 mod analysis;
 mod boxed;
 mod piece;
+mod rounds;
 mod stage;
 
 pub use boxed::PieceBox;
 pub use l3_search::{Count, Memo, Picked};
 pub use piece::Piece;
+pub use rounds::rounds_of_amplification;
 pub use stage::Stage;
 
 #[cfg(test)]

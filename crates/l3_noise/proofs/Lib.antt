@@ -1,0 +1,4 @@
+mod Rebuilt
+mod SumLemmas
+mod CompressLemmas
+mod CodedLemmas

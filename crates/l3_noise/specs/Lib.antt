@@ -1,0 +1,12 @@
+pub use Rattle.l3_count.specs.Amp
+pub use Rattle.l3_count.specs.Rates
+pub use Rattle.l3_count.specs.Spectrum
+pub use Rattle.l3_count.specs.Quantiser
+pub use Rattle.l3_count.specs.Amplified
+pub use Rattle.l3_count.specs.Bands
+pub use Rattle.l3_count.specs.Count
+pub use Rattle.l3_quant.specs.Reconstruction
+pub use Rattle.l3_energy.specs.Demand
+pub mod Noise
+pub mod Laws
+pub mod Kernels
