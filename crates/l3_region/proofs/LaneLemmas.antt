@@ -29,7 +29,7 @@ least_below-lower f (suc n) j lt = elim (cases_lt j n) [
   | inr here ↦ (let same : n ≡ j = omega arith in let e : f n ≡ f j = ap f same in omega arith)
 ]
 
-above : (f : ℕ → ℕ) (n b : ℕ) → b ≤ 65535 → ((j : ℕ) → j < n → b ≤ f j) → b ≤ least_below f n
+pub above : (f : ℕ → ℕ) (n b : ℕ) → b ≤ 65535 → ((j : ℕ) → j < n → b ≤ f j) → b ≤ least_below f n
 unfolding least_below
 above f zero b small le = omega arith
 above f (suc n) b small le = omega (arith, above f n b small (λ j lt. le j (omega arith)), le n (omega arith))

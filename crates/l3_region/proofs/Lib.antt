@@ -8,6 +8,9 @@ pub mod SplitLemmas
 pub mod QuadCells
 pub mod CutLines
 pub mod Ranges
+pub mod Kept
+pub mod Regional
+pub mod Keys
 pub mod CutClasses
 pub mod CutQuads
 pub mod Chosen

@@ -8,6 +8,7 @@
 #![tactic(auto)]
 
 mod choice;
+mod costs;
 mod cut;
 mod lanes;
 mod laws;

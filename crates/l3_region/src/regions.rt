@@ -5,11 +5,12 @@ ghost use Rattle.l3_region.specs.Cut.{AreCutOf, as_lines};
 ghost use Rattle.l3_region.specs.Regions.{regions_of};
 ghost use Rattle.l3_region.specs.Laws.{HoldsAll, region};
 
-use crate::choice::{Row, best_pair, range_table};
+use crate::choice::{best_pair, range_table};
 use crate::cut::{cut_of, peaks_of};
+use crate::lanes::no_classes;
 use crate::quads::best_quads;
 use crate::split::{Split, split_of_cut};
-use crate::sums::sum_bands;
+use crate::sums::{Sums, sum_bands};
 use l3_base::SampleRate;
 use l3_huff::QuadTable;
 
@@ -30,18 +31,10 @@ pub struct Regions {
 
 // Room for the sums up to each band.
 #[inline(always)]
-fn no_sums() -> [Row; 23]
-    ensures { result ≡ replicate 23 (replicate 24 0) }
+fn no_sums() -> Sums
+    ensures { result ≡ replicate 16 (replicate 32 0) }
 {
-    [[0; 24]; 23]
-}
-
-// Room for the class of each band.
-#[inline(always)]
-fn no_classes() -> [u8; 22]
-    ensures { result ≡ replicate 22 0 }
-{
-    [0; 22]
+    [[0; 32]; 16]
 }
 
 // The regions and tables of cut values that are split so.
@@ -57,18 +50,18 @@ fn regions_of_cut(cut: &[u8; 576], peaks: &[u16; 22], split: Split, rate: Sample
     ensures held { (q : List ℤ) → AreCutOf (band_edges rate) q cut.now peaks.now → (r : ℕ) → r < 3 → HoldsAll (slice_index result.tables r) (region (band_edges rate) q result.region0 result.region1 r) }
 {
     let end = 2 * usize::from(split.big);
-    let mut rows = no_sums();
+    let mut sums = no_sums();
     let mut classes = no_classes();
-    sum_bands(cut, peaks, end, rate.index(), &mut rows, &mut classes);
-    let pair = best_pair(&rows, &classes);
+    sum_bands(cut, peaks, end, rate.index(), &mut sums, &mut classes);
+    let pair = best_pair(&sums, &classes);
     let region0 = pair.place / 8;
     let region1 = pair.place % 8;
     let second = usize::from(region0) + 1;
     let third = second + usize::from(region1) + 1;
     let tables = [
-        range_table(&rows, &classes, 0, second),
-        range_table(&rows, &classes, second, third),
-        range_table(&rows, &classes, third, 22),
+        range_table(&sums, &classes, 0, second),
+        range_table(&sums, &classes, second, third),
+        range_table(&sums, &classes, third, 22),
     ];
     let quads = best_quads(cut, end, usize::from(split.quads));
     Regions {

@@ -3,7 +3,7 @@ use Rattle.std.specs.Prelude.{ℤ, All, slice_range, unsigned_abs}
 use Rattle.l3_tables.specs.Bands.{edges_at, band_edges}
 use Rattle.l3_region.specs.Cut.{AreCutOf, as_lines}
 use Rattle.l3_region.specs.declared.split.Split.{Split}
-use Rattle.l3_region.specs.Lanes.{IsBestPair}
+use Rattle.l3_region.specs.Lanes.{IsBestPair, rows_of}
 use Rattle.l3_region.specs.Regions.{quad_bits_in, quad_table_for}
 use Rattle.l3_region.specs.Split.{split_of, end_of_pairs, end_of_quads, quad_values_of}
 use Rattle.l3_region.proofs.Composed.{AreChosen, are_chosen, best_bits-le, regions_is, tables_hold}
@@ -60,7 +60,7 @@ overflow_add-result c =
     let known = c.requires.known in
     let best = c.best_pair-pair.result in
     let is = c.sum_bands.ensures.made known.0 (by_rate known.0 c.args.cut.now c.args.peaks.now (sym c.index.ensures) known.1) in
-    let pairs = best_bits-le known.0 c.index.result (2 * c.from-end.result) c.sum_bands.new.rows c.sum_bands.new.classes (best.place / 8) (best.place % 8) best.bits is (omega arith) (by_parts best.place (c.best_pair-pair.ensures.best)) in
+    let pairs = best_bits-le known.0 c.index.result (2 * c.from-end.result) (rows_of c.sum_bands.new.sums) c.sum_bands.new.classes (best.place / 8) (best.place % 8) best.bits is (omega arith) (by_parts best.place (c.best_pair-pair.ensures.best)) in
     let few = few_bits best.bits c.best_quads-quads.result.bits (2 * c.from-end.result) c.from-2.result pairs c.best_quads-quads.ensures.limit p.2 in
     omega (arith, few)
 
@@ -73,7 +73,7 @@ returns c =
     let edges = band_edges c.args.rate in
     let rate = c.index.result in
     let end = 2 * c.from-end.result in
-    let rows = c.sum_bands.new.rows in
+    let rows = rows_of c.sum_bands.new.sums in
     let classes = c.sum_bands.new.classes in
     let best = c.best_pair-pair.result in
     let a = best.place / 8 in
