@@ -3,7 +3,7 @@ pub mod Cells
 pub mod LaneLemmas
 pub mod AllPass
 pub mod Slices
-pub mod Pairs
+pub mod Lengths
 pub mod SplitLemmas
 pub mod QuadCells
 pub mod CutLines

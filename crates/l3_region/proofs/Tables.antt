@@ -3,7 +3,6 @@ use Rattle.std.proofs.Common.{◌≡◌, ℕ, zero, suc, ◌+◌, ◌-◌, ◌<�
 use Rattle.std.proofs.lemmas.Bool.{agree_below, agree_below_at, eqb-true, ltb-true, leb-true, cases_lt, le-leb, lt-leb}
 use Rattle.l3_huff.specs.Tables.{IsTable, is_table, greatest_of, linbits_at, width_at}
 use Rattle.l3_region.specs.declared.rows.TheConstants.{ROWS}
-use Rattle.l3_region.specs.declared.lanes.TheConstants.{MASKS}
 use Rattle.std.specs.Prelude.{max}
 use Rattle.l3_region.specs.Lanes.{lane_table, lane_class, bound_at, extra_of, lane_of, mask_at, row_at, short_at}
 
@@ -57,30 +56,25 @@ unfolding extra_of lane_class
 extra_none = refl
 
 pub mask_first : (class : ℕ) → class < 14 → mask_at class (first_long class) ≡ 0
-unfolding mask_at
+unfolding mask_at lane_class
 mask_first class lt = eqb-true _ _ (agree_below_at (λ c. eqb (mask_at c (first_long c)) 0) (λ _. true) 14 class refl lt)
 
 -- ---- masks and classes
 
 pub mask_small : (class k : ℕ) → class < 14 → k < 24 → mask_at class k ≤ 16384
-unfolding mask_at
+unfolding mask_at lane_class
 mask_small class k a b =
     leb-true _ _ (agree_below_at (λ j. leb (mask_at class j) 16384) (λ _. true) 24 k
     (agree_below_at (λ p. agree_below (λ j. leb (mask_at p j) 16384) (λ _. true) 24) (λ _. true) 14 class refl a) b)
 
-pub mask_long : (class : ℕ) → class < 14 → length (get_or MASKS class []) ≡ 24
-mask_long class a = eqb-true _ _ (agree_below_at (λ p. eqb (length (get_or MASKS p [])) 24) (λ _. true) 14 class refl a)
-
 -- a lane costs more exactly where its class is below the values'
 pub mask_is : (class k : ℕ) → class < 14 → k < 24 → mask_at class k ≡ cond (leb class (lane_class k)) 0 16384
-unfolding mask_at lane_class
-mask_is class k a b =
-    eqb-true _ _ (agree_below_at (λ j. eqb (mask_at class j) (cond (leb class (lane_class j)) 0 16384)) (λ _. true) 24 k
-    (agree_below_at (λ p. agree_below (λ j. eqb (mask_at p j) (cond (leb p (lane_class j)) 0 16384)) (λ _. true) 24) (λ _. true) 14 class refl a) b)
+unfolding mask_at
+mask_is class k a b = refl
 
 -- values that only tables with linbits hold are held from the lane of their class on
 pub mask_linbits : (class k : ℕ) → 6 ≤ class → class < 14 → k < 24 → mask_at class k ≡ cond (ltb k (class + 6)) 16384 0
-unfolding mask_at
+unfolding mask_at lane_class
 mask_linbits class k from to lt =
     let i = class - 6 in
     let back : i + 6 ≡ class = omega arith in
@@ -91,7 +85,7 @@ mask_linbits class k from to lt =
 
 -- others are held by all of these
 pub mask_none : (class k : ℕ) → class < 6 → 12 ≤ k → k < 24 → mask_at class k ≡ 0
-unfolding mask_at
+unfolding mask_at lane_class
 mask_none class k small from to =
     let j = k - 12 in
     let back : j + 12 ≡ k = omega arith in

@@ -5,7 +5,7 @@ use Rattle.l3_tables.specs.Lists.{entry, tabulate}
 use Rattle.l3_tables.specs.Bands.{edge_at, edges_at}
 use Rattle.l3_region.specs.Cut.{AreCutOf}
 use Rattle.l3_region.specs.Regions.{holds_all}
-use Rattle.l3_region.specs.declared.lanes.TheConstants.{TABLES, CLASSES, BOUNDS, MASKS}
+use Rattle.l3_region.specs.declared.lanes.TheConstants.{TABLES, CLASSES, BOUNDS}
 use Rattle.l3_region.specs.declared.rows.TheConstants.{ROWS}
 use Rattle.l3_region.specs.declared.quads.TheConstants.{QUAD_BITS_A, QUAD_BITS_B}
 
@@ -21,9 +21,10 @@ lane_class k = slice_index CLASSES k
 unfoldable pub bound_at : ℕ → ℕ
 bound_at class = slice_index BOUNDS class
 
--- what a lane costs besides its bits where the greatest value is of a class
+-- what a lane costs besides its bits where the greatest value is of a class: more than any pairs
+-- take, where the lane does not hold it
 unfoldable pub mask_at : ℕ → ℕ → ℕ
-mask_at class k = slice_index (slice_index_or MASKS class []) k
+mask_at class k = if nat_le class (lane_class k) then 0 else 16384
 
 -- the linbits of the tables of a class beyond those of table 24
 unfoldable pub extra_of : ℕ → ℕ
@@ -87,15 +88,6 @@ least_below f (suc n) = min (least_below f n) (f n)
 -- what n bands from band i on cost in the cheapest lane
 unfoldable pub range_cost : List (List ℕ) → List ℕ → ℕ → ℕ → ℕ
 range_cost rows classes i n = least_below (lane_cost (slice_index_or rows i []) (slice_index_or rows (i + n) []) (class_from classes i n)) 24
-
--- a range of bands and the band after it cost no more apart than together
-abbrev pub CostsGrow : List (List ℕ) → List ℕ → Type 0
-CostsGrow rows classes = (i n : ℕ) → i + n < 22 → range_cost rows classes i n + range_cost rows classes (i + n) 1 ≤ range_cost rows classes i (n + 1)
-
--- bands cost at least the difference of two floors
-abbrev pub AreFloors : List (List ℕ) → List ℕ → List ℕ → Type 0
-AreFloors rows classes floors = (i n : ℕ) → i + n ≤ 22 →
-    (slice_index floors i ≤ slice_index floors (i + n)) × (slice_index floors (i + n) ≤ slice_index floors i + range_cost rows classes i n)
 
 -- what the regions cost for pair i of region0_count and region1_count, that is (i / 8, i % 8)
 unfoldable pub pair_cost : List (List ℕ) → List ℕ → ℕ → ℕ
