@@ -1,4 +1,5 @@
--- The code tables side by side, a lane each, and sums over them. Only the inside of this crate speaks of these.
+-- The code tables side by side, a lane each, and sums over them. Only the inside of this crate
+-- speaks of these.
 use Rattle.std.specs.Prelude.{◌≡◌, ◌<◌, ◌≤◌, ◌+◌, ◌-◌, ◌*◌, ◌/◌, ◌%◌, ◌^◌, ℕ, zero, suc, nat_le, Bool, true, false, if◌then◌else◌, ◌⊎◌, List, [], max, min, slice_index, slice_index_or, ℤ, unsigned_abs, All, length, slice_range}
 use Rattle.std.specs.List.{list_all}
 use Rattle.l3_tables.specs.Lists.{entry, tabulate}
@@ -30,7 +31,8 @@ mask_at class k = if nat_le class (lane_class k) then 0 else 16384
 unfoldable pub extra_of : ℕ → ℕ
 extra_of class = class - 6 + (if nat_le 12 class then 1 else 0) + (if nat_le 13 class then 1 else 0)
 
--- a lane from those that are kept: lanes of tables with linbits are that of table 24 and, for each value of 15 and more, the linbits beyond its own
+-- a lane from those that are kept: lanes of tables with linbits are that of table 24 and, for each
+-- value of 15 and more, the linbits beyond its own
 unfoldable pub lane_of : (ℕ → ℕ) → ℕ → ℕ
 lane_of kept k = if nat_le 12 k then kept 12 + extra_of (lane_class k) * kept 13 else kept k
 
@@ -185,7 +187,8 @@ long_cost sums i j class = cell_at sums 12 j - cell_at sums 12 i + extra_of clas
 unfoldable pub cost_between : List (List ℕ) → ℕ → ℕ → ℕ → ℕ
 cost_between sums i j class = min (long_cost sums i j class) (least_below (kept_cost sums i j class) 12)
 
--- so much is reckoned for pair i: its cost, and more than any cost where region 1 ends beyond the 22 bands
+-- so much is reckoned for pair i: its cost, and more than any cost where region 1 ends beyond the
+-- 22 bands
 pub record IsReckoned (f : ℕ → ℕ) (i bits : ℕ) : Type 0 where
   pub pair : IsPair i → bits ≡ f i
   pub beyond : 22 < i / 8 + i % 8 + 2 → 30000 ≤ bits

@@ -1,4 +1,5 @@
-//! The choice of regions: the cheapest lane between two edges, and the pair of region lengths of least cost.
+//! The choice of regions: the cheapest lane between two edges, and the pair of region lengths of
+//! least cost.
 
 ghost use Rattle.std.specs.Prelude.{◌≡◌, ◌<◌, ◌≤◌, ◌+◌, ◌-◌, ◌*◌, ◌/◌, ◌%◌, ◌^◌, ℕ, IsTrue, List, length, max, min, replicate, slice_index, slice_index_or, []};
 ghost use Rattle.l3_region.specs.Lanes.{AreKept, AreKeys, AreSums, IsBestPair, IsFirstLane, IsReckoned, cell_at, class_from, cost_between, edge_in, extra_of, kept_cost, lane_cost, lane_table, mask_at, pair_cost, range_cost, rows_of};
@@ -31,7 +32,8 @@ fn first_of_thirteen(sums: &Sums, from: usize, to: usize, class: u16) -> usize
 
 // The first lane of least cost between two edges.
 //
-// Where only tables with linbits hold the values, it is the first of these; zeros cost nothing in lane 0.
+// Where only tables with linbits hold the values, it is the first of these; zeros cost nothing in
+// lane 0.
 fn first_lane(sums: &Sums, from: usize, to: usize, class: u16) -> usize
     requires class { class < 14 }
     requires kept { AreKept sums.now }

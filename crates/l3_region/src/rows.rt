@@ -1,9 +1,11 @@
-//! The bits of each pair of absolute values in each code table up to table 24, a lane for each table, and the number of its values of 15 and more.
+//! The bits of each pair of absolute values in each code table up to table 24, a lane for each
+//! table, and the number of its values of 15 and more.
 
 ghost use Rattle.std.specs.Prelude.{◌≡◌, ◌<◌, ◌≤◌, ℕ, length, slice_index};
 ghost use Rattle.l3_region.specs.Lanes.{short_at};
 
-// The bits of pairs in the tables of lanes 0 to 12, linbits and signs included, by the place of their absolute values cut at 15; 0 where the table has no such code.
+// The bits of pairs in the tables of lanes 0 to 12, linbits and signs included, by the place of
+// their absolute values cut at 15; 0 where the table has no such code.
 // Lane 13 has the number of values of 15; lanes 14 and 15 fill up the row.
 #[rattlefmt::skip]
 static ROWS: [[u16; 16]; 256] = [

@@ -12,7 +12,8 @@ use crate::lanes::{classes_of, no_classes};
 use crate::rows::row;
 use l3_tables::edge;
 
-// Of each lane of tables up to table 24 the sum of the bits up to each band, and in lane 13 of the number of values of 15 and more.
+// Of each lane of tables up to table 24 the sum of the bits up to each band, and in lane 13 of the
+// number of values of 15 and more.
 //
 // Lanes 14 and 15 fill up the rows; edges 23 and 24 are edge 22 again.
 pub(crate) type Sums = [[u16; 32]; 16];
