@@ -7,6 +7,7 @@ pub mod Lengths
 pub mod SplitLemmas
 pub mod QuadCells
 pub mod CutLines
+pub mod Unpacked
 pub mod Ranges
 pub mod Kept
 pub mod Regional

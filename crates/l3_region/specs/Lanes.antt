@@ -1,10 +1,8 @@
--- The code tables side by side, a lane each, and sums over them. Only the inside of this crate
--- speaks of these.
+-- The code tables side by side, a lane each, and sums over them. Other crates speak of places of
+-- pairs and of classes of values alone.
 use Rattle.std.specs.Prelude.{◌≡◌, ◌<◌, ◌≤◌, ◌+◌, ◌-◌, ◌*◌, ◌/◌, ◌%◌, ◌^◌, ℕ, zero, suc, nat_le, Bool, true, false, if◌then◌else◌, ◌⊎◌, List, [], max, min, slice_index, slice_index_or, ℤ, unsigned_abs, All, length, slice_range}
-use Rattle.std.specs.List.{list_all}
 use Rattle.l3_tables.specs.Lists.{entry, tabulate}
-use Rattle.l3_tables.specs.Bands.{edge_at, edges_at}
-use Rattle.l3_region.specs.Cut.{AreCutOf}
+use Rattle.l3_tables.specs.Bands.{edge_at}
 use Rattle.l3_region.specs.Regions.{holds_all}
 use Rattle.l3_region.specs.declared.lanes.TheConstants.{TABLES, CLASSES, BOUNDS}
 use Rattle.l3_region.specs.declared.rows.TheConstants.{ROWS}
@@ -126,11 +124,6 @@ pub record AreSums (rows : List (List ℕ)) (classes : List ℕ) : Type 0 where
   pub zero_bits : (i : ℕ) → i ≤ 22 → sum_at rows i 0 ≡ 0
   pub linbits : (i j : ℕ) → i ≤ j → j ≤ 22 → LinbitsGrow (slice_index_or rows i []) (slice_index_or rows j [])
   pub classed : (i n : ℕ) → i + n ≤ 22 → class_from classes i n < 14
-
--- the greatest of a band's values before a line, of whatever values there are that are cut so
-unfoldable pub IsBandPeak : List ℕ → List ℕ → ℕ → ℕ → ℕ → ℕ → Type 0
-IsBandPeak cut peaks rate end band peak = (q : List ℤ) → AreCutOf (edges_at rate) q cut peaks →
-    (n : ℕ) → list_all (λ x. nat_le (unsigned_abs x) n) (slice_range q (min (edge_at rate band) end) (min (edge_at rate (band + 1)) end)) ≡ nat_le peak n
 
 -- 1 where a value is above a bound, and else 0
 abbrev pub one_above : ℕ → ℕ → ℕ

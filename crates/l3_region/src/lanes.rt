@@ -114,3 +114,29 @@ pub(crate) fn classes_of(values: &[u16; 32]) -> [u16; 32]
     }
     classes
 }
+
+// Room for the classes of bands.
+#[inline(always)]
+fn no_band_classes() -> [u8; 32]
+    ensures { length result ≡ 32 }
+{
+    [0; 32]
+}
+
+// The classes of the greatest values of bands.
+pub(crate) fn band_classes(peaks: &[u16; 22]) -> [u8; 32]
+    requires { (b : ℕ) → b < 22 → slice_index peaks.now b ≤ 8191 }
+    ensures value { (b k : ℕ) → b < 22 → k < 24 → nat_le (slice_index peaks.now b) (greatest_of (lane_table k)) ≡ nat_le (slice_index result b) (lane_class k) }
+    ensures small { (b : ℕ) → b < 22 → slice_index result b < 14 }
+{
+    let mut tops = no_classes();
+    for b in 0..22 {
+        tops[b] = peaks[b];
+    }
+    let wide = classes_of(&tops);
+    let mut classes = no_band_classes();
+    for b in 0..32 {
+        classes[b] = wide[b] as u8;
+    }
+    classes
+}

@@ -4,11 +4,11 @@
 ghost use Rattle.std.specs.Prelude.{◌≡◌, ◌≢◌, ◌<◌, ◌≤◌, ◌+◌, ◌*◌, ◌/◌, ◌%◌, ◌^◌, ℕ, ℤ, List, All, length, min, nat_le, replicate, slice_index, slice_index_or, slice_range, []};
 ghost use Rattle.std.specs.List.{list_all};
 ghost use Rattle.l3_tables.specs.Bands.{edge_at, edges_at};
-ghost use Rattle.l3_region.specs.Cut.{AreCutOf, as_lines};
 ghost use Rattle.l3_region.specs.Split.{end_of_pairs};
-ghost use Rattle.l3_region.specs.Lanes.{AreKept, AreSums, AreSumsOf, IsBandPeak, cell_at, rows_of, short_sum};
+ghost use Rattle.l3_region.specs.Lanes.{AreKept, AreSums, AreSumsOf, cell_at, rows_of, short_sum};
+ghost use Rattle.l3_region.specs.Pairs.{ArePairsOf, IsBandClass, lines_in};
 
-use crate::lanes::{classes_of, no_classes};
+use crate::lanes::no_classes;
 use crate::rows::row;
 use l3_tables::edge;
 
@@ -29,17 +29,6 @@ fn no_bits() -> [u16; 16]
     [0; 16]
 }
 
-// The place of a pair of cut values.
-#[inline(always)]
-fn place(x: u8, y: u8) -> usize
-    requires x { x ≤ 15 }
-    requires y { y ≤ 15 }
-    ensures value { result ≡ 16 * x + y }
-    ensures within { result < 256 }
-{
-    16 * usize::from(x) + usize::from(y)
-}
-
 // Adds the bits of one pair.
 #[inline(always)]
 fn add_row(sums: &mut [u16; 16], row: &[u16; 16])
@@ -56,18 +45,17 @@ fn add_row(sums: &mut [u16; 16], row: &[u16; 16])
 
 // Adds the bits of the pairs from one to before another.
 #[inline(always)]
-fn add_pairs(cut: &[u8; 576], from: usize, to: usize, sums: &mut [u16; 16])
-    requires small { All (λ x. x ≤ 15) cut.now }
+fn add_pairs(pairs: &[u8; 288], from: usize, to: usize, sums: &mut [u16; 16])
     requires order { from ≤ to }
     requires within { to ≤ 288 }
     requires long { length sums.old ≡ 16 }
-    requires before { (t : ℕ) → t < 16 → slice_index sums.old t ≡ short_sum (as_lines cut.now) t from }
-    ensures sums { (t : ℕ) → t < 16 → slice_index sums.new t ≡ short_sum (as_lines cut.now) t to }
+    requires before { (t : ℕ) → t < 16 → slice_index sums.old t ≡ short_sum (lines_in pairs.now) t from }
+    ensures sums { (t : ℕ) → t < 16 → slice_index sums.new t ≡ short_sum (lines_in pairs.now) t to }
     ensures long { length sums.new ≡ 16 }
 {
     let mut sum = *sums;
     for n in from..to {
-        add_row(&mut sum, row(place(cut[2 * n], cut[2 * n + 1])));
+        add_row(&mut sum, row(usize::from(pairs[n])));
     }
     *sums = sum;
 }
@@ -101,21 +89,28 @@ pub(crate) fn greatest(values: &[u8]) -> u8
     greatest
 }
 
-// The greatest value of a band's part, which a cut value below 15 tells, and otherwise the greatest
-// one of the band, since all others are at most 1.
+// The class of the part of a band before the end of the pairs, from that of the whole band.
+//
+// Behind the end all values are at most 1: so a class of 2 and more is that of the part too, and
+// otherwise it tells whether the part has a value other than 0.
 #[inline(always)]
-fn peak_of_part(part: &[u8], peak: u16) -> u16
-    ensures { (m : ℕ) × ((n : ℕ) → list_all (λ x. nat_le x n) part.now ≡ nat_le m n) × (m < 15 → result ≡ m) × (15 ≤ m → result ≡ peak) }
+fn part_class(part: &[u8], whole: u16) -> u16
+    ensures high { 2 ≤ whole → result ≡ whole }
+    ensures low { whole < 2 → result < 2 }
+    ensures zeros { whole < 2 → list_all (λ x. nat_le x 0) part.now ≡ nat_le result 0 }
 {
-    let greatest = u16::from(greatest(part));
-    if greatest < 15 { greatest } else { peak }
+    if whole >= 2 {
+        whole
+    } else {
+        u16::from(greatest(part)).min(1)
+    }
 }
 
-// The greatest of a band's values before the line where the pairs end.
+// The class of a band's values before the line where the pairs end.
 #[inline(always)]
-fn band_peak(
-    cut: &[u8; 576],
-    peaks: &[u16; 22],
+fn band_class(
+    pairs: &[u8; 288],
+    classes: &[u8; 32],
     rate: usize,
     end: usize,
     band: usize,
@@ -125,52 +120,53 @@ fn band_peak(
     requires band { band < 22 }
     requires within { end ≤ 576 }
     requires from { from ≡ min (edge_at rate band) end }
-    requires ends { end ≡ end_of_pairs (as_lines cut.now) }
-    requires known { (q : List ℤ) × AreCutOf (edges_at rate) q cut.now peaks.now }
-    ensures value { IsBandPeak cut.now peaks.now rate end band result }
-    ensures small { result ≤ 8191 }
+    requires ends { end ≡ end_of_pairs (lines_in pairs.now) }
+    requires known { (q : List ℤ) × ArePairsOf (edges_at rate) q pairs.now classes.now }
+    ensures value { IsBandClass pairs.now classes.now rate end band result }
+    ensures small { result < 14 }
 {
+    let whole = u16::from(classes[band]);
     if usize::from(edge(rate, band + 1)) <= end {
-        peaks[band]
+        whole
     } else {
-        peak_of_part(&cut[from..end], peaks[band])
+        part_class(&pairs[from / 2..end / 2], whole)
     }
 }
 
 // Writes the sums up to each band and the class of each band, all cut at the line where the pairs
-// end.
+// end, from the classes of the whole bands.
 pub(crate) fn sum_bands(
-    cut: &[u8; 576],
-    peaks: &[u16; 22],
+    pairs: &[u8; 288],
+    classes: &[u8; 32],
     end: usize,
     rate: usize,
     sums: &mut Sums,
-    classes: &mut Classes,
+    parts: &mut Classes,
 )
     requires rate { rate < 3 }
     requires within { end ≤ 576 }
-    requires ends { end ≡ end_of_pairs (as_lines cut.now) }
-    requires known { (q : List ℤ) × AreCutOf (edges_at rate) q cut.now peaks.now }
+    requires ends { end ≡ end_of_pairs (lines_in pairs.now) }
+    requires known { (q : List ℤ) × ArePairsOf (edges_at rate) q pairs.now classes.now }
     requires lanes { length sums.old ≡ 16 }
     requires edges { (t : ℕ) → t < 16 → length (slice_index_or sums.old t []) ≡ 32 }
-    ensures made { (q : List ℤ) → AreCutOf (edges_at rate) q cut.now peaks.now → AreSumsOf q rate end (rows_of sums.new) classes.new }
-    ensures ready { AreSums (rows_of sums.new) classes.new }
+    ensures made { (q : List ℤ) → ArePairsOf (edges_at rate) q pairs.now classes.now → AreSumsOf q rate end (rows_of sums.new) parts.new }
+    ensures ready { AreSums (rows_of sums.new) parts.new }
     ensures kept { AreKept sums.new }
-    ensures long { length classes.new ≡ 32 }
-    ensures few { (b : ℕ) → slice_index classes.new b < 14 }
+    ensures long { length parts.new ≡ 32 }
+    ensures few { (b : ℕ) → slice_index parts.new b < 14 }
 {
     let mut sum = no_bits();
-    let mut tops = no_classes();
+    let mut own = no_classes();
     let mut from = 0usize;
     for band in 0..22usize {
         put(sums, band, &sum);
-        tops[band] = band_peak(cut, peaks, rate, end, band, from);
+        own[band] = band_class(pairs, classes, rate, end, band, from);
         let to = usize::from(edge(rate, band + 1)).min(end);
-        add_pairs(cut, from / 2, to / 2, &mut sum);
+        add_pairs(pairs, from / 2, to / 2, &mut sum);
         from = to;
     }
     put(sums, 22, &sum);
     put(sums, 23, &sum);
     put(sums, 24, &sum);
-    *classes = classes_of(&tops);
+    *parts = own;
 }

@@ -1,4 +1,4 @@
-use Rattle.std.proofs.Common.{◌≡◌, ◌≢◌, ℕ, List, ◌<◌, ◌≤◌, ◌+◌, ◌/◌, ◌%◌, ◌∙◌, get_or, get_or-set_other, get_or-set_same, length, replicate, inl, inr, arith, ap, sym, min}
+use Rattle.std.proofs.Common.{◌≡◌, ◌≢◌, ℕ, List, ◌<◌, ◌+◌, ◌/◌, ◌%◌, ◌∙◌, get_or, get_or-set_other, get_or-set_same, length, replicate, inl, inr, arith, ap, sym, min}
 use Rattle.std.proofs.lemmas.Bool.{cases_eq, cases_lt}
 use Rattle.std.proofs.lemmas.List.{get_or_past}
 use Rattle.std.proofs.Math.ListN.{set, length-set}
@@ -6,11 +6,11 @@ use Rattle.l3_tables.proofs.ListLemmas.{filled_more}
 use Rattle.std.proofs.lemmas.Simd.{get_or-replicate}
 use Rattle.l3_tables.specs.Bands.{edge_at}
 use Rattle.std.specs.Prelude.{ℤ}
-use Rattle.l3_region.specs.Cut.{as_lines}
+use Rattle.l3_region.specs.Pairs.{IsBandClass, lines_in, unpacked}
 use Rattle.l3_region.specs.Split.{end_of_pairs}
-use Rattle.l3_region.specs.Lanes.{IsBandPeak, cell_at, rows_of, short_sum}
-use Rattle.l3_region.proofs.CutClasses.{band_values, class_of_peak}
-use Rattle.l3_region.proofs.CutLines.{cut_small, sums_same}
+use Rattle.l3_region.specs.Lanes.{cell_at, rows_of, short_sum}
+use Rattle.l3_region.proofs.CutLines.{sums_same}
+use Rattle.l3_region.proofs.Unpacked.{unpacked_same}
 use Rattle.l3_tables.proofs.Edges.{edge_first, edge_order}
 use Rattle.l3_region.proofs.Kept.{AreCells, cells_last, kept_from, rows_from, short_sum-none}
 use Rattle.l3_region.proofs.Ranges.{are_sums}
@@ -19,7 +19,7 @@ use Rattle.l3_region.proofs.sums.sum_bands.Goals as goal
 end_even : (end : ℕ) (lines : List ℤ) → end ≡ end_of_pairs lines → end % 2 ≡ 0
 end_even end lines is = omega arith
 
-few_none : (classes : List ℕ) → classes ≡ replicate 32 0 → (b : ℕ) → get_or classes b 0 ≤ 8191
+few_none : (classes : List ℕ) → classes ≡ replicate 32 0 → (b : ℕ) → get_or classes b 0 < 14
 few_none classes is b = elim (cases_lt b 32) [
   | inl lt ↦ (let e = ap (λ xs. get_or xs b 0) is ∙ get_or-replicate {A = ℕ} 32 b 0 0 lt in omega (arith, e))
   | inr ge ↦ (let long = ap length is in let e = get_or_past classes b 0 (omega (arith, long, ge)) in omega (arith, e))
@@ -31,16 +31,16 @@ loop-band-init c =
     record {
       start = omega (arith, edge_first c.args.rate c.requires.rate);
       long = ap length none;
-      sum = λ t lt. ap (λ s. get_or s t 0) none ∙ (get_or-replicate 16 t 0 0 lt ∙ sym (short_sum-none (as_lines c.args.cut.now) t));
+      sum = λ t lt. ap (λ s. get_or s t 0) none ∙ (get_or-replicate 16 t 0 0 lt ∙ sym (short_sum-none (lines_in c.args.pairs.now) t));
       lanes = c.requires.lanes;
       edges = c.requires.edges;
       cells = λ t b lt less. absurd (omega arith);
-      tops_long = ap length c.no_classes-tops.ensures;
-      tops = λ b lt. absurd (omega arith);
-      small = few_none c.no_classes-tops.result c.no_classes-tops.ensures;
+      own_long = ap length c.no_classes-own.ensures;
+      own = λ b lt. absurd (omega arith);
+      few = few_none c.no_classes-own.result c.no_classes-own.ensures;
     }
 
-few_more : (classes : List ℕ) (i v : ℕ) → i < length classes → v ≤ 8191 → ((b : ℕ) → get_or classes b 0 ≤ 8191) → (b : ℕ) → get_or (set classes i v) b 0 ≤ 8191
+few_more : (classes : List ℕ) (i v : ℕ) → i < length classes → v < 14 → ((b : ℕ) → get_or classes b 0 < 14) → (b : ℕ) → get_or (set classes i v) b 0 < 14
 few_more classes i v lt small few b = elim (cases_eq b i) [
   | inl same ↦ (let e = get_or-set_same classes i v 0 lt in let at = ap (λ j. get_or (set classes i v) j 0) same in omega (arith, e, at))
   | inr other ↦ (let ne : b ≢ i = other in let e = get_or-set_other classes i b v 0 ne in omega (arith, e, few b))
@@ -51,11 +51,11 @@ loop-band-preserved c =
     let inv = c.loop-band.invariant in
     let rate = c.args.rate in
     let end = c.args.end in
-    let lines = as_lines c.args.cut.now in
+    let lines = lines_in c.args.pairs.now in
     let band : ℕ = c.loop-band.band in
-    let tops = c.loop-band.tops in
-    let top = c.band_peak.result in
-    let room : band < length tops = omega (arith, inv.tops_long, c.loop-band-test.true) in
+    let own = c.loop-band.own in
+    let class = c.band_class.result in
+    let room : band < length own = omega (arith, inv.own_long, c.loop-band-test.true) in
     record {
       start = omega (arith, c.min-to.ensures, c.from.ensures, c.edge.ensures.value);
       long = c.add_pairs.ensures.long;
@@ -69,9 +69,9 @@ loop-band-preserved c =
             ap (cell_at c.put.new.sums t) same
             ∙ (c.put.ensures.here t lt ∙ (inv.sum t lt ∙ (ap (λ n. short_sum lines t (n / 2)) inv.start ∙ ap (λ i. short_sum lines t (min (edge_at rate i) end / 2)) (sym same)))))
       ];
-      tops_long = length-set tops band top ∙ inv.tops_long;
-      tops = filled_more (λ b v. IsBandPeak c.args.cut.now c.args.peaks.now rate end b v) tops band top 0 room inv.tops c.band_peak.ensures.value;
-      small = few_more tops band top room c.band_peak.ensures.small inv.small;
+      own_long = length-set own band class ∙ inv.own_long;
+      own = filled_more (λ b v. IsBandClass c.args.pairs.now c.args.classes.now rate end b v) own band class 0 room inv.own c.band_class.ensures.value;
+      few = few_more own band class room c.band_class.ensures.small inv.few;
     }
 
 -- from one edge to the next
@@ -79,14 +79,11 @@ pub add_pairs-requires-clause-order : goal.add_pairs-requires-clause-order
 add_pairs-requires-clause-order c =
     omega (arith, edge_order c.args.rate c.loop-band.band (c.loop-band.band + 1) c.requires.rate (omega arith) (omega arith), c.loop-band.invariant.start, c.edge.ensures.value, c.from.ensures, c.min-to.ensures)
 
-pub add_pairs-requires-clause-small : goal.add_pairs-requires-clause-small
-add_pairs-requires-clause-small c = cut_small c.requires.known.0 c.args.cut.now c.requires.known.1.cut_is
-
 pub returns-clause-kept : goal.returns-clause-kept
 returns-clause-kept c =
     let rate = c.args.rate in
     let end = c.args.end in
-    let lines = as_lines c.args.cut.now in
+    let lines = lines_in c.args.pairs.now in
     let inv = c.loop-band.invariant in
     let last : c.loop-band.band ≡ 22 = omega arith in
     let start : c.loop-band.from ≡ min (edge_at rate 22) end = inv.start ∙ ap (λ b. min (edge_at rate b) end) last in
@@ -96,12 +93,12 @@ returns-clause-kept c =
     kept_from lines rate end c.put-4.new.sums c.requires.rate c.requires.within c.put-4.ensures.lanes c.put-4.ensures.edges cells
 
 pub returns-clause-made : goal.returns-clause-made
-unfolding IsBandPeak
+unfolding IsBandClass
 returns-clause-made c = λ q is.
     let rate = c.args.rate in
     let end = c.args.end in
-    let cut = c.args.cut.now in
-    let lines = as_lines cut in
+    let pairs = c.args.pairs.now in
+    let lines = lines_in pairs in
     let inv = c.loop-band.invariant in
     let last : c.loop-band.band ≡ 22 = omega arith in
     let start : c.loop-band.from ≡ min (edge_at rate 22) end = inv.start ∙ ap (λ b. min (edge_at rate b) end) last in
@@ -114,13 +111,12 @@ returns-clause-made c = λ q is.
       within = c.requires.within;
       long = is.long;
       codable = is.codable;
-      sums = λ b k lt lk. rows_from lines rate end c.put-4.new.sums cells b k lt lk ∙ sums_same q cut k (min (edge_at rate b) end / 2) is.cut_is;
-      classed = λ b lt.
-          class_of_peak (band_values rate q end b) (get_or c.loop-band.tops b 0) (get_or c.classes_of.result b 0) (inv.tops b (omega arith) q is) (λ k lk. c.classes_of.ensures.value b k (omega arith) lk);
-      few = λ b lt. c.classes_of.ensures.small b;
+      sums = λ b k lt lk. rows_from lines rate end c.put-4.new.sums cells b k lt lk ∙ sums_same q (unpacked pairs) k (min (edge_at rate b) end / 2) (unpacked_same q pairs c.args.classes.now c.told-pairs is);
+      classed = λ b lt. inv.own b (omega arith) q is;
+      few = λ b lt. inv.few b;
     }
 
 pub returns-clause-ready : goal.returns-clause-ready
 returns-clause-ready c =
     let known = c.requires.known in
-    are_sums known.0 c.args.rate c.args.end (rows_of c.put-4.new.sums) c.classes_of.result (returns-clause-made c known.0 known.1)
+    are_sums known.0 c.args.rate c.args.end (rows_of c.put-4.new.sums) c.loop-band.own (returns-clause-made c known.0 known.1)
