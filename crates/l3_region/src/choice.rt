@@ -4,7 +4,7 @@
 ghost use Rattle.std.specs.Prelude.{◌≡◌, ◌<◌, ◌≤◌, ◌+◌, ◌-◌, ◌*◌, ◌/◌, ◌%◌, ◌^◌, ℕ, IsTrue, List, length, max, min, replicate, slice_index, slice_index_or, []};
 ghost use Rattle.l3_region.specs.Lanes.{AreKept, AreKeys, AreSums, IsBestPair, IsFirstLane, IsReckoned, cell_at, class_from, cost_between, edge_in, extra_of, kept_cost, lane_cost, lane_table, mask_at, pair_cost, range_cost, rows_of};
 
-use crate::costs::{Sixteen, costs, none};
+use crate::costs::{Sixteen, costs, costs_to_end, none};
 use crate::lanes::{gate, no_classes, table};
 use crate::sums::{Classes, Sums};
 
@@ -126,18 +126,6 @@ fn beyond() -> Classes
     [30000; 32]
 }
 
-// What the bands from each of sixteen on cost.
-#[inline(never)]
-fn tails_from(sums: &Sums, band: usize, most: &Sixteen) -> Sixteen
-    requires kept { AreKept sums.now }
-    requires within { band ≤ 7 }
-    requires most { (j : ℕ) → j < 16 → slice_index most.now j < 14 }
-    ensures values { (j : ℕ) → j < 16 → slice_index result j ≡ cost_between sums.now (band + j) 22 (slice_index most.now j) }
-    ensures long { length result ≡ 16 }
-{
-    costs(sums, band, true, 22, false, most)
-}
-
 // What the bands from each one on cost.
 fn tails(sums: &Sums, classes: &Classes) -> Classes
     requires sums { AreSums (rows_of sums.now) classes.now }
@@ -148,8 +136,8 @@ fn tails(sums: &Sums, classes: &Classes) -> Classes
     ensures long { length result ≡ 32 }
 {
     let most = classes_after(classes);
-    let low = tails_from(sums, 0, &sixteen_from(&most, 0));
-    let high = tails_from(sums, 7, &sixteen_from(&most, 7));
+    let low = costs_to_end(sums, 0, &sixteen_from(&most, 0));
+    let high = costs_to_end(sums, 7, &sixteen_from(&most, 7));
     let mut tails = beyond();
     for j in 0..7 {
         tails[j] = low[j];

@@ -1,7 +1,7 @@
 //! What regions cost in the cheapest lane, sixteen side by side.
 
 ghost use Rattle.std.specs.Prelude.{◌≡◌, ◌<◌, ◌≤◌, ◌+◌, ◌-◌, ◌*◌, ℕ, Bool, IsTrue, length, min, replicate, slice_index, slice_index_or, []};
-ghost use Rattle.l3_region.specs.Lanes.{AreKept, cell_at, cost_between, edge_in, extra_of, mask_at};
+ghost use Rattle.l3_region.specs.Lanes.{AreKept, cell_at, cost_between, edge_in, extra_of, kept_cost, mask_at};
 
 use crate::lanes::{extra, gate};
 use crate::sums::Sums;
@@ -129,4 +129,52 @@ pub(crate) fn costs(
         cost = take_lane(&low, &high, most, t, &cost);
     }
     cost
+}
+
+// The lesser of the cost and what the bands from each of sixteen to the last one cost in one lane
+// more.
+#[inline(always)]
+fn with_lane(sums: &Sums, band: usize, most: &Sixteen, t: usize, cost: &Sixteen) -> Sixteen
+    requires lane { t < 12 }
+    requires kept { AreKept sums.now }
+    requires within { band ≤ 7 }
+    requires most { (j : ℕ) → j < 16 → slice_index most.now j < 14 }
+    ensures values { (j : ℕ) → j < 16 → slice_index result j ≡ min (slice_index cost.now j) (kept_cost sums.now (band + j) 22 (slice_index most.now j) t) }
+    ensures long { length result ≡ 16 }
+{
+    take_lane(&moving(&sums[t], band), &still(&sums[t], 22), most, t, cost)
+}
+
+// What the bands from each of sixteen to the last one cost in the cheapest lane.
+//
+// It is as `costs`, with the lanes written out: the compiler leaves a loop over them as it is here,
+// and those of one class share their masks.
+#[inline(never)]
+pub(crate) fn costs_to_end(sums: &Sums, band: usize, most: &Sixteen) -> Sixteen
+    requires kept { AreKept sums.now }
+    requires within { band ≤ 7 }
+    requires most { (j : ℕ) → j < 16 → slice_index most.now j < 14 }
+    ensures values { (j : ℕ) → j < 16 → slice_index result j ≡ cost_between sums.now (band + j) 22 (slice_index most.now j) }
+    ensures small { (j : ℕ) → j < 16 → slice_index result j ≤ 9216 }
+    ensures long { length result ≡ 16 }
+{
+    let long = with_linbits(
+        &moving(&sums[12], band),
+        &still(&sums[12], 22),
+        &moving(&sums[13], band),
+        &still(&sums[13], 22),
+        most,
+    );
+    let first = with_lane(sums, band, most, 0, &long);
+    let second = with_lane(sums, band, most, 1, &first);
+    let third = with_lane(sums, band, most, 2, &second);
+    let fourth = with_lane(sums, band, most, 3, &third);
+    let fifth = with_lane(sums, band, most, 4, &fourth);
+    let sixth = with_lane(sums, band, most, 5, &fifth);
+    let seventh = with_lane(sums, band, most, 6, &sixth);
+    let eighth = with_lane(sums, band, most, 7, &seventh);
+    let ninth = with_lane(sums, band, most, 8, &eighth);
+    let tenth = with_lane(sums, band, most, 9, &ninth);
+    let eleventh = with_lane(sums, band, most, 10, &tenth);
+    with_lane(sums, band, most, 11, &eleventh)
 }
