@@ -6,7 +6,7 @@ use Rattle.l3_tables.specs.Bands.{edge_at}
 use Rattle.l3_region.specs.Regions.{holds_all}
 use Rattle.l3_region.specs.declared.lanes.TheConstants.{TABLES, CLASSES, BOUNDS}
 use Rattle.l3_region.specs.declared.rows.TheConstants.{ROWS}
-use Rattle.l3_region.specs.declared.quads.TheConstants.{QUAD_BITS_A, QUAD_BITS_B}
+use Rattle.l3_region.specs.declared.quads.TheConstants.{QUAD_BITS}
 
 -- the table of a lane
 unfoldable pub lane_table : ℕ → ℕ
@@ -42,12 +42,19 @@ short_at place t = slice_index (slice_index_or ROWS place []) t
 unfoldable pub row_at : ℕ → ℕ → ℕ
 row_at place k = lane_of (short_at place) k
 
--- the bits of a quadruple by its index, in each table
+-- the entry of both tables of quadruples at a place
+unfoldable pub quad_entry : ℕ → ℕ
+quad_entry place = slice_index QUAD_BITS place
+
+-- the bits of a quadruple by its index 8 * v + 4 * w + 2 * x + y, in each table
+unfoldable pub quad_place : ℕ → ℕ
+quad_place index = 64 * (index / 8) + 4 * (index / 4 % 2) + 16 * (index / 2 % 2) + index % 2
+
 unfoldable pub bits_in_a : ℕ → ℕ
-bits_in_a index = slice_index QUAD_BITS_A index
+bits_in_a index = quad_entry (quad_place index) % 65536
 
 unfoldable pub bits_in_b : ℕ → ℕ
-bits_in_b index = slice_index QUAD_BITS_B index
+bits_in_b index = quad_entry (quad_place index) / 65536
 
 -- the place of a pair, by its absolute values cut at 15
 unfoldable pub place_of : ℤ → ℤ → ℕ
