@@ -12,6 +12,7 @@ pub use Rattle.l3_region.specs.Cut
 pub use Rattle.l3_region.specs.Split
 pub use Rattle.l3_region.specs.Regions
 pub use Rattle.l3_region.specs.Laws as RegionLaws
+pub use Rattle.l3_planes.specs.Units as PlanesOfUnits
 pub mod Count
 pub mod Laws
 pub mod Memo

@@ -1,19 +1,29 @@
-ghost use Rattle.std.specs.Prelude.{◌≡◌, ◌+◌, ◌<◌, Any, IfNone, IfSome, pos, replicate, unsigned_abs};
+ghost use Rattle.std.specs.Prelude.{◌≡◌, ◌+◌, ◌*◌, ◌/◌, ◌%◌, ◌<◌, ℕ, Any, IfNone, IfSome, length, pos, replicate, slice_index, unsigned_abs};
 ghost use Rattle.l3_quant.specs.Quantiser.{IsCodable};
 ghost use Rattle.l3_quant.specs.Amplified.{quantised_bands};
 ghost use Rattle.l3_quant.specs.Magnitudes.{AreLinePeaks};
 ghost use Rattle.l3_region.specs.Bands.{band_edges};
+ghost use Rattle.l3_planes.specs.Units.{ArePlanesOf};
 ghost use Rattle.l3_count.specs.Count.{count_of};
 
 use crate::count::Count;
 use l3_base::{Amp, SampleRate, Spectrum, Steps};
-use l3_quant::{band_peaks, cut_values, line_peaks};
+use l3_planes::{Planes, no_planes, pairs_at, set};
+use l3_quant::{band_peaks, line_peaks};
 use std::sync::ledger::Ledger;
+
+// Room for 288 pairs.
+#[inline(always)]
+fn no_pairs() -> [u8; 288]
+    ensures { length result ≡ 288 }
+{
+    [0; 288]
+}
 
 // Room for 576 absolute values.
 #[inline(always)]
 fn no_values() -> [u8; 576]
-    ensures { result ≡ replicate 576 0 }
+    ensures { length result ≡ 576 }
 {
     [0; 576]
 }
@@ -24,6 +34,19 @@ fn no_peaks() -> [u16; 22]
     ensures { result ≡ replicate 22 0 }
 {
     [0; 22]
+}
+
+// The values of pairs, one by one.
+#[inline(always)]
+fn unpack(pairs: &[u8; 288], out: &mut [u8; 576])
+    ensures long { length out.new ≡ 576 }
+    ensures first { (i : ℕ) → i < 288 → slice_index out.new (2 * i) ≡ slice_index pairs.now i / 16 }
+    ensures second { (i : ℕ) → i < 288 → slice_index out.new (2 * i + 1) ≡ slice_index pairs.now i % 16 }
+{
+    for i in 0..288 {
+        out[2 * i] = pairs[i] / 16;
+        out[2 * i + 1] = pairs[i] % 16;
+    }
 }
 
 /// What a unit costs at a gain under an amplification, or `None` exactly where a quantised value is
@@ -40,30 +63,38 @@ pub fn count_at<L: Ledger + Send>(
     ensures none { IfNone result (Any (λ q. 8191 < unsigned_abs q) (quantised_bands (band_edges rate) amp.now (pos gain) spec.now)) }
     ensures ticks { steps.new ≡ steps.old + 1 }
 {
-    count_with(spec, &line_peaks(spec, rate), rate, amp, gain, steps)
+    let peaks = line_peaks(spec, rate);
+    let mut planes = no_planes();
+    set(&mut planes, spec, &peaks);
+    count_with(spec, &peaks, &planes, rate, amp, gain, steps)
 }
 
-/// The same over the spectrum's greatest line of each band, which serve all gains and
-/// amplifications and are made once by `line_peaks`.
+/// The same over the spectrum's greatest line of each band and its planes, which serve all gains
+/// and amplifications and are made once by `line_peaks` and by `set`.
 pub fn count_with<L: Ledger + Send>(
     spec: &Spectrum,
     peaks: &[u32; 22],
+    planes: &Planes,
     rate: SampleRate,
     amp: &Amp,
     gain: u8,
     steps: &mut Steps<L>,
 ) -> Option<Count>
     requires peaks { AreLinePeaks (band_edges rate) spec.now peaks.now }
+    requires planes { ArePlanesOf (band_edges rate) spec.now planes.now }
     ensures value { result ≡ count_of (band_edges rate) amp.now spec.now gain }
     ensures some { IfSome result (λ c. IsCodable (quantised_bands (band_edges rate) amp.now (pos gain) spec.now)) }
     ensures none { IfNone result (Any (λ q. 8191 < unsigned_abs q) (quantised_bands (band_edges rate) amp.now (pos gain) spec.now)) }
     ensures ticks { steps.new ≡ steps.old + 1 }
 {
+    let _spec = spec;
     steps.tick();
     let mut quantised = no_peaks();
     if band_peaks(peaks, amp, gain, &mut quantised) {
+        let mut pairs = no_pairs();
+        pairs_at(planes, rate, amp, gain, &mut pairs);
         let mut cut = no_values();
-        cut_values(spec, rate, amp, gain, &mut cut);
+        unpack(&pairs, &mut cut);
         Some(Count::of_cut(&cut, &quantised, rate, amp, gain))
     } else {
         None
