@@ -4,7 +4,8 @@ use Rattle.std.proofs.Common.{◌≡◌, ℕ, ◌+◌, ◌*◌, ◌/◌, ◌%◌
 use Rattle.std.proofs.lemmas.Bool.{cases_eq}
 use Rattle.l3_quant.proofs.LimitLemmas.{cut_sizes-is}
 use Rattle.l3_planes.specs.Rows.{size_at}
-use Rattle.l3_planes.specs.Marks.{ArePairsOf}
+use Rattle.l3_region.specs.Lanes.{place_of}
+use Rattle.l3_planes.specs.Marks.{ArePacked}
 use Rattle.l3_region.specs.Peaks.{AreBandPeaks}
 use Rattle.l3_quant.specs.Quantiser.{IsCodable}
 use Rattle.l3_quant.specs.Amplified.{quantised_bands}
@@ -26,10 +27,11 @@ quantised_cut edges amp gain lines cut peaks long codable cuts are = record {
 }
 
 -- the values of pairs are those that were packed
-pub unpacked : (q : List ℤ) (pairs cut : List ℕ) → length q ≡ 576 → length cut ≡ 576 → ArePairsOf q pairs →
+pub unpacked : (q : List ℤ) (pairs cut : List ℕ) → length q ≡ 576 → length cut ≡ 576 → ArePacked q pairs →
     ((i : ℕ) → i < 288 → get_or cut (2 * i) 0 ≡ get_or pairs i 0 / 16) →
     ((i : ℕ) → i < 288 → get_or cut (2 * i + 1) 0 ≡ get_or pairs i 0 % 16) →
     cut ≡ cut_sizes q
+unfolding place_of
 unpacked q pairs cut long same are first second =
     cut_sizes-is q cut (omega (arith, long, same)) (λ k lt.
     let i = k / 2 in

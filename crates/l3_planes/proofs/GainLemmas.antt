@@ -6,9 +6,10 @@ use Rattle.l3_base.specs.Rates.{hertz_index_of}
 use Rattle.l3_tables.specs.Bands.{band_edges}
 use Rattle.l3_quant.specs.Quantiser.{magnitude_at, steps_of}
 use Rattle.l3_quant.specs.Amplified.{band_of, quantised_bands}
+use Rattle.l3_region.specs.Lanes.{place_of}
 use Rattle.l3_quant.proofs.BandLemmas.{band_gain-no_amp, quantised_bands-long, quantised_bands-size}
 use Rattle.l3_planes.specs.Rows.{line_at, size_at}
-use Rattle.l3_planes.specs.Marks.{ArePairsOf, band_steps, cut_at, line_steps}
+use Rattle.l3_planes.specs.Marks.{ArePacked, band_steps, cut_at, line_steps}
 use Rattle.l3_planes.specs.Ends.{IsQuantised}
 
 -- with no band amplified all bands have the gain itself
@@ -26,7 +27,8 @@ plain_quantised edges gain lines long = record {
 -- pairs of lines that each have the gain of their band
 pub pairs_are : (rate : SampleRate) (amp : List ℕ) (gain : ℕ) (lines : List ℤ) (out : List ℕ) → length lines ≡ 576 →
     ((i : ℕ) → i < 288 → get_or out i 0 ≡ 16 * cut_at lines (line_steps (hertz_index_of rate) amp gain) (2 * i) + cut_at lines (line_steps (hertz_index_of rate) amp gain) (2 * i + 1)) →
-    ArePairsOf (quantised_bands (band_edges rate) amp (pos gain) lines) out
+    ArePacked (quantised_bands (band_edges rate) amp (pos gain) lines) out
+unfolding place_of
 pairs_are rate amp gain lines out long each i lt =
     let q = quantised_bands (band_edges rate) amp (pos gain) lines in
     let steps = line_steps (hertz_index_of rate) amp gain in

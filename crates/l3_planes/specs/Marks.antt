@@ -3,6 +3,8 @@ use Rattle.std.specs.Prelude.{◌≡◌, ◌<◌, ◌≤ℤ◌, ◌+◌, ◌-ℤ
 use Rattle.l3_quant.specs.Quantiser.{magnitude_at, steps_of}
 use Rattle.l3_quant.specs.Amplified.{band_gain, band_of}
 use Rattle.l3_tables.specs.Bands.{edges_at}
+use Rattle.l3_tables.specs.Lists.{entry}
+use Rattle.l3_region.specs.Lanes.{place_of}
 use Rattle.l3_planes.specs.Planes.{key_at}
 use Rattle.l3_planes.specs.Rows.{line_at, size_at}
 
@@ -28,7 +30,7 @@ pub record AreMarks (steps : ℕ → ℕ) (marks : List ℤ) (least : ℤ) : Typ
 abbrev pub cut_at : List ℤ → (ℕ → ℕ) → ℕ → ℕ
 cut_at lines steps i = min (magnitude_at (size_at lines i) (steps i)) 15
 
--- the pairs of whole numbers, each cut at 15: 16 times the first and the second
-abbrev pub ArePairsOf : List ℤ → List ℕ → Type 0
-ArePairsOf q pairs = (i : ℕ) → i < 288 →
-    slice_index pairs i ≡ 16 * min (size_at q (2 * i)) 15 + min (size_at q (2 * i + 1)) 15
+-- the pairs of whole numbers, each by its place: 16 times the first and the second, cut at 15
+abbrev pub ArePacked : List ℤ → List ℕ → Type 0
+ArePacked q pairs = (i : ℕ) → i < 288 →
+    slice_index pairs i ≡ place_of (entry q (2 * i)) (entry q (2 * i + 1))

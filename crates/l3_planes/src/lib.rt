@@ -18,3 +18,6 @@ mod tables;
 mod unit;
 
 pub use unit::{Planes, classes_at, is_codable_at, no_planes, pairs_at, set, split_at};
+
+#[cfg(test)]
+mod tests;

@@ -60,7 +60,8 @@ fn last(ends: &[u8; 288], key: u8) -> usize
 
 // The split of a unit's values, from the ends of the values 1 and 2.
 pub(crate) fn split(nonzero: &[u8; 288], above_one: &[u8; 288], key: u8) -> Split
-    ensures { (lines q : List ℤ) (h : ℕ) → AreEnds lines 0 nonzero.now → AreEnds lines 1 above_one.now → key ≡ key_at h → IsQuantised lines h q → result ≡ split_of q }
+    ensures places { 2 * result.big + 4 * result.quads ≤ 576 }
+    ensures value { (lines q : List ℤ) (h : ℕ) → AreEnds lines 0 nonzero.now → AreEnds lines 1 above_one.now → key ≡ key_at h → IsQuantised lines h q → result ≡ split_of q }
 {
     let pairs = last(nonzero, key);
     let ones = last(above_one, key).min(pairs);

@@ -1,4 +1,4 @@
-ghost use Rattle.std.specs.Prelude.{true, ◌≡◌, ◌↔◌, ℕ, List, ℤ, ◌+◌, ◌<◌, ◌^◌, All, pos, slice_index, slice_range};
+ghost use Rattle.std.specs.Prelude.{true, ◌≡◌, ◌↔◌, ℕ, List, ℤ, ◌+◌, ◌*◌, ◌<◌, ◌≤◌, ◌^◌, All, pos, slice_index, slice_range};
 ghost use Rattle.l3_base.specs.Amp.{no_amp};
 ghost use Rattle.l3_base.specs.declared.rate.SampleRate.{SampleRate};
 ghost use Rattle.l3_tables.specs.Bands.{band_edges};
@@ -7,7 +7,7 @@ ghost use Rattle.l3_quant.specs.Amplified.{quantised_bands};
 ghost use Rattle.l3_quant.specs.Magnitudes.{AreLinePeaks};
 ghost use Rattle.l3_region.specs.Lanes.{IsClass};
 ghost use Rattle.l3_region.specs.Split.{split_of};
-ghost use Rattle.l3_planes.specs.Marks.{ArePairsOf};
+ghost use Rattle.l3_planes.specs.Marks.{ArePacked};
 ghost use Rattle.l3_planes.specs.Units.{ArePlanesOf};
 
 use crate::bands::{band_classes, is_coded, write_classes};
@@ -71,7 +71,7 @@ fn no_marks() -> [i8; 576] {
 ///
 /// Each line is quantised at the gain of its band: `gain`, less 2 for each of the amplification.
 pub fn pairs_at(planes: &Planes, rate: SampleRate, amp: &Amp, gain: u8, out: &mut [u8; 288])
-    ensures { (lines : List ℤ) → ArePlanesOf (band_edges rate) lines planes.now → ArePairsOf (quantised_bands (band_edges rate) amp.now (pos gain) lines) out.new }
+    ensures { (lines : List ℤ) → ArePlanesOf (band_edges rate) lines planes.now → ArePacked (quantised_bands (band_edges rate) amp.now (pos gain) lines) out.new }
 {
     let mut marks = no_marks();
     let least = marks_at(rate, amp, gain, &mut marks);
@@ -80,7 +80,8 @@ pub fn pairs_at(planes: &Planes, rate: SampleRate, amp: &Amp, gain: u8, out: &mu
 
 /// The split of the quantised values at a gain, where no band is amplified.
 pub fn split_at(planes: &Planes, gain: u8) -> Split
-    ensures { (rate : SampleRate) (lines : List ℤ) → ArePlanesOf (band_edges rate) lines planes.now → result ≡ split_of (quantised_bands (band_edges rate) no_amp (pos gain) lines) }
+    ensures places { 2 * result.big + 4 * result.quads ≤ 576 }
+    ensures value { (rate : SampleRate) (lines : List ℤ) → ArePlanesOf (band_edges rate) lines planes.now → result ≡ split_of (quantised_bands (band_edges rate) no_amp (pos gain) lines) }
 {
     split(&planes.nonzero, &planes.above_one, equal_key(gain))
 }
