@@ -3,7 +3,7 @@ use Rattle.std.proofs.Common.{◌≡◌, ℕ, zero, suc, ◌+◌, ◌-◌, ◌*�
 use Rattle.std.specs.Prelude.{ℤ, min, max}
 use Rattle.std.proofs.lemmas.Bool.{cases_lt, le-leb, lt-ltb, le-ltb}
 use Rattle.l3_tables.specs.Lists.{entry}
-use Rattle.l3_region.specs.Lanes.{AreFloors, AreSums, CostsGrow, IsFirstLane, LinbitsGrow, lane_class, mask_at, least_below, class_from, lane_cost, lane_sum, range_cost, row_at, place_of}
+use Rattle.l3_region.specs.Lanes.{AreSums, IsFirstLane, LinbitsGrow, lane_class, mask_at, least_below, class_from, lane_cost, lane_sum, range_cost, row_at, place_of}
 use Rattle.l3_region.proofs.Tables.{mask_is, mask_linbits, mask_none, row_rises, row_small, row_zero}
 
 -- ---- the least
@@ -29,7 +29,7 @@ least_below-lower f (suc n) j lt = elim (cases_lt j n) [
   | inr here ↦ (let same : n ≡ j = omega arith in let e : f n ≡ f j = ap f same in omega arith)
 ]
 
-above : (f : ℕ → ℕ) (n b : ℕ) → b ≤ 65535 → ((j : ℕ) → j < n → b ≤ f j) → b ≤ least_below f n
+pub above : (f : ℕ → ℕ) (n b : ℕ) → b ≤ 65535 → ((j : ℕ) → j < n → b ≤ f j) → b ≤ least_below f n
 unfolding least_below
 above f zero b small le = omega arith
 above f (suc n) b small le = omega (arith, above f n b small (λ j lt. le j (omega arith)), le n (omega arith))
@@ -224,17 +224,3 @@ range_cost-zero rows classes i n is le none =
     let low : leb class (lane_class 0) ≡ true = le-leb class (lane_class 0) (omega (arith, none)) in
     let mask : mask_at class 0 ≡ 0 = mask_is class 0 (omega (arith, none)) (omega arith) ∙ ap (λ t. cond t 0 16384) low in
     omega (arith, least_below-lower f 24 0 (omega arith), mask, is.zero_bits (i + n) le)
-
--- each floor is the one before and what its band costs
-pub floors-are : (rows : List (List ℕ)) (classes floors : List ℕ) → CostsGrow rows classes →
-    ((e : ℕ) → e < 22 → get_or floors (e + 1) 0 ≡ get_or floors e 0 + range_cost rows classes e 1) → AreFloors rows classes floors
-floors-are rows classes floors grow steps i zero le =
-    let same : i + 0 ≡ i = omega arith in
-    rw same (omega arith, omega arith)
-floors-are rows classes floors grow steps i (suc n) le =
-    let more : i + suc n ≡ i + n + 1 = omega arith in
-    let one : suc n ≡ n + 1 = omega arith in
-    let before = floors-are rows classes floors grow steps i n (omega arith) in
-    let step = steps (i + n) (omega arith) in
-    let apart = grow i n (omega arith) in
-    rw (more, one) (omega (arith, before.0, step), omega (arith, before.1, step, apart))

@@ -3,11 +3,15 @@ pub mod Cells
 pub mod LaneLemmas
 pub mod AllPass
 pub mod Slices
-pub mod Pairs
+pub mod Lengths
 pub mod SplitLemmas
 pub mod QuadCells
 pub mod CutLines
+pub mod Unpacked
 pub mod Ranges
+pub mod Kept
+pub mod Regional
+pub mod Keys
 pub mod CutClasses
 pub mod CutQuads
 pub mod Chosen

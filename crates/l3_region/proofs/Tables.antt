@@ -3,25 +3,25 @@ use Rattle.std.proofs.Common.{◌≡◌, ℕ, zero, suc, ◌+◌, ◌-◌, ◌<�
 use Rattle.std.proofs.lemmas.Bool.{agree_below, agree_below_at, eqb-true, ltb-true, leb-true, cases_lt, le-leb, lt-leb}
 use Rattle.l3_huff.specs.Tables.{IsTable, is_table, greatest_of, linbits_at, width_at}
 use Rattle.l3_region.specs.declared.rows.TheConstants.{ROWS}
-use Rattle.l3_region.specs.declared.lanes.TheConstants.{MASKS}
-use Rattle.l3_region.specs.Lanes.{lane_table, lane_class, bound_at, mask_at, row_at}
+use Rattle.std.specs.Prelude.{max}
+use Rattle.l3_region.specs.Lanes.{lane_table, lane_class, bound_at, extra_of, lane_of, mask_at, row_at, short_at}
 
 -- ---- rows
 
 pub row_small : (place k : ℕ) → place < 256 → k < 24 → row_at place k ≤ 32
-unfolding row_at
+unfolding row_at lane_of extra_of lane_class short_at
 row_small place k a b =
     leb-true _ _ (agree_below_at (λ j. leb (row_at place j) 32) (λ _. true) 24 k
     (agree_below_at (λ p. agree_below (λ j. leb (row_at p j) 32) (λ _. true) 24) (λ _. true) 256 place refl a) b)
 
 -- table 0 has no bits
 pub row_zero : (place : ℕ) → place < 256 → row_at place 0 ≡ 0
-unfolding row_at
+unfolding row_at lane_of extra_of lane_class short_at
 row_zero place a = eqb-true _ _ (agree_below_at (λ p. eqb (row_at p 0) 0) (λ _. true) 256 place refl a)
 
 -- in the lanes of tables with linbits a pair takes no fewer bits from lane to lane
 pub row_rises : (place k : ℕ) → place < 256 → 12 ≤ k → k < 23 → row_at place k ≤ row_at place (k + 1)
-unfolding row_at
+unfolding row_at lane_of extra_of lane_class short_at
 row_rises place k a from to =
     let j = k - 12 in
     let back : j + 12 ≡ k = omega arith in
@@ -31,30 +31,50 @@ row_rises place k a from to =
     let next : j + 13 ≡ k + 1 = omega arith in
     omega (arith, tested, ap (row_at place) back, ap (row_at place) next)
 
-pub row_long : (place : ℕ) → place < 256 → length (get_or ROWS place []) ≡ 24
-row_long place a = eqb-true _ _ (agree_below_at (λ p. eqb (length (get_or ROWS p [])) 24) (λ _. true) 256 place refl a)
+pub row_long : (place : ℕ) → place < 256 → length (get_or ROWS place []) ≡ 16
+row_long place a = eqb-true _ _ (agree_below_at (λ p. eqb (length (get_or ROWS p [])) 16) (λ _. true) 256 place refl a)
+
+-- what is kept of a pair is at most 14, and of values of 15 there are at most two
+pub short_small : (place t : ℕ) → place < 256 → t < 16 → short_at place t ≤ 14
+unfolding short_at
+short_small place t a b =
+    leb-true _ _ (agree_below_at (λ j. leb (short_at place j) 14) (λ _. true) 16 t
+    (agree_below_at (λ p. agree_below (λ j. leb (short_at p j) 14) (λ _. true) 16) (λ _. true) 256 place refl a) b)
+
+-- ---- the linbits beyond those of table 24
+
+-- the first lane that has linbits enough for a class
+abbrev pub first_long : ℕ → ℕ
+first_long class = max (class + 6) 12
+
+pub extra_first : (class : ℕ) → class < 14 → extra_of (lane_class (first_long class)) ≡ extra_of class
+unfolding extra_of lane_class
+extra_first class lt = eqb-true _ _ (agree_below_at (λ c. eqb (extra_of (lane_class (first_long c))) (extra_of c)) (λ _. true) 14 class refl lt)
+
+pub extra_none : extra_of (lane_class 12) ≡ 0
+unfolding extra_of lane_class
+extra_none = refl
+
+pub mask_first : (class : ℕ) → class < 14 → mask_at class (first_long class) ≡ 0
+unfolding mask_at lane_class
+mask_first class lt = eqb-true _ _ (agree_below_at (λ c. eqb (mask_at c (first_long c)) 0) (λ _. true) 14 class refl lt)
 
 -- ---- masks and classes
 
 pub mask_small : (class k : ℕ) → class < 14 → k < 24 → mask_at class k ≤ 16384
-unfolding mask_at
+unfolding mask_at lane_class
 mask_small class k a b =
     leb-true _ _ (agree_below_at (λ j. leb (mask_at class j) 16384) (λ _. true) 24 k
     (agree_below_at (λ p. agree_below (λ j. leb (mask_at p j) 16384) (λ _. true) 24) (λ _. true) 14 class refl a) b)
 
-pub mask_long : (class : ℕ) → class < 14 → length (get_or MASKS class []) ≡ 24
-mask_long class a = eqb-true _ _ (agree_below_at (λ p. eqb (length (get_or MASKS p [])) 24) (λ _. true) 14 class refl a)
-
 -- a lane costs more exactly where its class is below the values'
 pub mask_is : (class k : ℕ) → class < 14 → k < 24 → mask_at class k ≡ cond (leb class (lane_class k)) 0 16384
-unfolding mask_at lane_class
-mask_is class k a b =
-    eqb-true _ _ (agree_below_at (λ j. eqb (mask_at class j) (cond (leb class (lane_class j)) 0 16384)) (λ _. true) 24 k
-    (agree_below_at (λ p. agree_below (λ j. eqb (mask_at p j) (cond (leb p (lane_class j)) 0 16384)) (λ _. true) 24) (λ _. true) 14 class refl a) b)
+unfolding mask_at
+mask_is class k a b = refl
 
 -- values that only tables with linbits hold are held from the lane of their class on
 pub mask_linbits : (class k : ℕ) → 6 ≤ class → class < 14 → k < 24 → mask_at class k ≡ cond (ltb k (class + 6)) 16384 0
-unfolding mask_at
+unfolding mask_at lane_class
 mask_linbits class k from to lt =
     let i = class - 6 in
     let back : i + 6 ≡ class = omega arith in
@@ -65,7 +85,7 @@ mask_linbits class k from to lt =
 
 -- others are held by all of these
 pub mask_none : (class k : ℕ) → class < 6 → 12 ≤ k → k < 24 → mask_at class k ≡ 0
-unfolding mask_at
+unfolding mask_at lane_class
 mask_none class k small from to =
     let j = k - 12 in
     let back : j + 12 ≡ k = omega arith in

@@ -1,11 +1,10 @@
--- The code tables side by side, a lane each, and sums over them. Only the inside of this crate
--- speaks of these.
-use Rattle.std.specs.Prelude.{◌≡◌, ◌<◌, ◌≤◌, ◌+◌, ◌-◌, ◌*◌, ◌/◌, ◌%◌, ◌^◌, ℕ, zero, suc, nat_le, List, [], max, min, slice_index, slice_index_or, ℤ, unsigned_abs, All, length, slice_range}
-use Rattle.l3_tables.specs.Lists.{entry}
-use Rattle.l3_tables.specs.Bands.{edge_at, edges_at}
-use Rattle.l3_region.specs.Cut.{AreCutOf}
+-- The code tables side by side, a lane each, and sums over them. Other crates speak of places of
+-- pairs and of classes of values alone.
+use Rattle.std.specs.Prelude.{◌≡◌, ◌<◌, ◌≤◌, ◌+◌, ◌-◌, ◌*◌, ◌/◌, ◌%◌, ◌^◌, ℕ, zero, suc, nat_le, Bool, true, false, if◌then◌else◌, ◌⊎◌, List, [], max, min, slice_index, slice_index_or, ℤ, unsigned_abs, All, length, slice_range}
+use Rattle.l3_tables.specs.Lists.{entry, tabulate}
+use Rattle.l3_tables.specs.Bands.{edge_at}
 use Rattle.l3_region.specs.Regions.{holds_all}
-use Rattle.l3_region.specs.declared.lanes.TheConstants.{TABLES, CLASSES, BOUNDS, MASKS}
+use Rattle.l3_region.specs.declared.lanes.TheConstants.{TABLES, CLASSES, BOUNDS}
 use Rattle.l3_region.specs.declared.rows.TheConstants.{ROWS}
 use Rattle.l3_region.specs.declared.quads.TheConstants.{QUAD_BITS_A, QUAD_BITS_B}
 
@@ -21,13 +20,27 @@ lane_class k = slice_index CLASSES k
 unfoldable pub bound_at : ℕ → ℕ
 bound_at class = slice_index BOUNDS class
 
--- what a lane costs besides its bits where the greatest value is of a class
+-- what a lane costs besides its bits where the greatest value is of a class: more than any pairs
+-- take, where the lane does not hold it
 unfoldable pub mask_at : ℕ → ℕ → ℕ
-mask_at class k = slice_index (slice_index_or MASKS class []) k
+mask_at class k = if nat_le class (lane_class k) then 0 else 16384
+
+-- the linbits of the tables of a class beyond those of table 24
+unfoldable pub extra_of : ℕ → ℕ
+extra_of class = class - 6 + (if nat_le 12 class then 1 else 0) + (if nat_le 13 class then 1 else 0)
+
+-- a lane from those that are kept: lanes of tables with linbits are that of table 24 and, for each
+-- value of 15 and more, the linbits beyond its own
+unfoldable pub lane_of : (ℕ → ℕ) → ℕ → ℕ
+lane_of kept k = if nat_le 12 k then kept 12 + extra_of (lane_class k) * kept 13 else kept k
+
+-- what is kept of the pair at a place
+unfoldable pub short_at : ℕ → ℕ → ℕ
+short_at place t = slice_index (slice_index_or ROWS place []) t
 
 -- the bits of the pair at a place in a lane
 unfoldable pub row_at : ℕ → ℕ → ℕ
-row_at place k = slice_index (slice_index_or ROWS place []) k
+row_at place k = lane_of (short_at place) k
 
 -- the bits of a quadruple by its index, in each table
 unfoldable pub bits_in_a : ℕ → ℕ
@@ -44,6 +57,11 @@ place_of x y = 16 * min (unsigned_abs x) 15 + min (unsigned_abs y) 15
 unfoldable pub lane_sum : List ℤ → ℕ → ℕ → ℕ
 lane_sum q k zero = 0
 lane_sum q k (suc n) = lane_sum q k n + row_at (place_of (entry q (2 * n)) (entry q (2 * n + 1))) k
+
+-- what is kept of the first n pairs
+unfoldable pub short_sum : List ℤ → ℕ → ℕ → ℕ
+short_sum q t zero = 0
+short_sum q t (suc n) = short_sum q t n + short_at (place_of (entry q (2 * n)) (entry q (2 * n + 1))) t
 
 -- the values are of a class: the tables that hold them are those of at least this class
 abbrev pub IsClass : List ℤ → ℕ → Type 0
@@ -70,15 +88,6 @@ least_below f (suc n) = min (least_below f n) (f n)
 -- what n bands from band i on cost in the cheapest lane
 unfoldable pub range_cost : List (List ℕ) → List ℕ → ℕ → ℕ → ℕ
 range_cost rows classes i n = least_below (lane_cost (slice_index_or rows i []) (slice_index_or rows (i + n) []) (class_from classes i n)) 24
-
--- a range of bands and the band after it cost no more apart than together
-abbrev pub CostsGrow : List (List ℕ) → List ℕ → Type 0
-CostsGrow rows classes = (i n : ℕ) → i + n < 22 → range_cost rows classes i n + range_cost rows classes (i + n) 1 ≤ range_cost rows classes i (n + 1)
-
--- bands cost at least the difference of two floors
-abbrev pub AreFloors : List (List ℕ) → List ℕ → List ℕ → Type 0
-AreFloors rows classes floors = (i n : ℕ) → i + n ≤ 22 →
-    (slice_index floors i ≤ slice_index floors (i + n)) × (slice_index floors (i + n) ≤ slice_index floors i + range_cost rows classes i n)
 
 -- what the regions cost for pair i of region0_count and region1_count, that is (i / 8, i % 8)
 unfoldable pub pair_cost : List (List ℕ) → List ℕ → ℕ → ℕ
@@ -116,9 +125,9 @@ pub record AreSums (rows : List (List ℕ)) (classes : List ℕ) : Type 0 where
   pub linbits : (i j : ℕ) → i ≤ j → j ≤ 22 → LinbitsGrow (slice_index_or rows i []) (slice_index_or rows j [])
   pub classed : (i n : ℕ) → i + n ≤ 22 → class_from classes i n < 14
 
--- the class of a band's values before a line, of whatever values there are that are cut so
-unfoldable pub IsBandClass : List ℕ → List ℕ → ℕ → ℕ → ℕ → ℕ → Type 0
-IsBandClass cut peaks rate end band class = (q : List ℤ) → AreCutOf (edges_at rate) q cut peaks → IsClass (slice_range q (min (edge_at rate band) end) (min (edge_at rate (band + 1)) end)) class
+-- 1 where a value is above a bound, and else 0
+abbrev pub one_above : ℕ → ℕ → ℕ
+one_above bound value = if nat_le value bound then 0 else 1
 
 -- the values between two edges, cut at the line where the pairs end
 abbrev pub values_between : List ℤ → ℕ → ℕ → ℕ → ℕ → List ℤ
@@ -135,3 +144,56 @@ pub record AreSumsOf (q : List ℤ) (rate end : ℕ) (rows : List (List ℕ)) (c
   pub sums : (b k : ℕ) → b < 23 → k < 24 → sum_at rows b k ≡ lane_sum q k (min (edge_at rate b) end / 2)
   pub classed : (b : ℕ) → b < 22 → IsClass (values_between q rate end b (b + 1)) (slice_index classes b)
   pub few : (b : ℕ) → b < 22 → slice_index classes b < 14
+
+-- ---- sums that are kept lane by lane, up to each of 25 edges
+
+-- lane t up to edge b
+abbrev pub cell_at : List (List ℕ) → ℕ → ℕ → ℕ
+cell_at sums t b = slice_index (slice_index_or sums t []) b
+
+-- the rows of all lanes, band by band
+unfoldable pub rows_of : List (List ℕ) → List (List ℕ)
+rows_of sums = tabulate 23 (λ b. tabulate 24 (lane_of (λ t. cell_at sums t b)))
+
+-- sixteen lanes that rise and stay small, with no bits in the lane of table 0
+pub record AreKept (sums : List (List ℕ)) : Type 0 where
+  pub lanes : length sums ≡ 16
+  pub edges : (t : ℕ) → t < 16 → length (slice_index_or sums t []) ≡ 32
+  pub rising : (t i j : ℕ) → t < 16 → i ≤ j → j < 25 → cell_at sums t i ≤ cell_at sums t j
+  pub small : (t b : ℕ) → t < 16 → b < 25 → cell_at sums t b ≤ 9216
+  pub linbits : (b : ℕ) → b < 25 → cell_at sums 12 b + 9 * cell_at sums 13 b ≤ 9216
+
+-- the edge of one of sixteen regions: they begin or end at one edge, or at one after the other
+abbrev pub edge_in : ℕ → Bool → ℕ → ℕ
+edge_in at false j = at
+edge_in at true j = at + j
+
+-- what a kept lane costs between two edges
+abbrev pub kept_cost : List (List ℕ) → ℕ → ℕ → ℕ → ℕ → ℕ
+kept_cost sums i j class t = cell_at sums t j - cell_at sums t i + mask_at class t
+
+-- what the first lane costs that has linbits enough for a class
+abbrev pub long_cost : List (List ℕ) → ℕ → ℕ → ℕ → ℕ
+long_cost sums i j class = cell_at sums 12 j - cell_at sums 12 i + extra_of class * (cell_at sums 13 j - cell_at sums 13 i)
+
+-- what a region between two edges costs in the cheapest lane
+unfoldable pub cost_between : List (List ℕ) → ℕ → ℕ → ℕ → ℕ
+cost_between sums i j class = min (long_cost sums i j class) (least_below (kept_cost sums i j class) 12)
+
+-- so much is reckoned for pair i: its cost, and more than any cost where region 1 ends beyond the
+-- 22 bands
+pub record IsReckoned (f : ℕ → ℕ) (i bits : ℕ) : Type 0 where
+  pub pair : IsPair i → bits ≡ f i
+  pub beyond : 22 < i / 8 + i % 8 + 2 → 30000 ≤ bits
+
+-- a key is none so far, or what is reckoned for a pair and after it, as digits below 128, the pair
+pub record IsKey (f : ℕ → ℕ) (pair bits : ℕ) (key : ℕ) : Type 0 where
+  pub place : pair < 128
+  pub reckoned : IsReckoned f pair bits
+  pub key_is : key ≡ 128 * bits + pair
+
+-- key j is the least of those of pairs 8 * j to 8 * j + n
+pub record AreKeys (f : ℕ → ℕ) (n : ℕ) (keys : List ℕ) : Type 0 where
+  pub long : length keys ≡ 16
+  pub lower : (j k : ℕ) → j < 16 → k < n → IsPair (8 * j + k) → slice_index keys j ≤ 128 * f (8 * j + k) + (8 * j + k)
+  pub found : (j : ℕ) → j < 16 → (slice_index keys j ≡ 2 ^ 32 - 1) ⊎ ((p v : ℕ) × IsKey f p v (slice_index keys j))

@@ -8,9 +8,11 @@
 #![tactic(auto)]
 
 mod choice;
+mod costs;
 mod cut;
 mod lanes;
 mod laws;
+mod pairs;
 mod quads;
 mod regions;
 mod rows;
@@ -19,8 +21,8 @@ mod sums;
 
 pub use l3_huff::QuadTable;
 pub use laws::fewest_bits;
-pub use regions::{Regions, best, best_of_cut};
-pub use split::{Split, split_of};
+pub use regions::{Regions, best, best_of_cut, best_of_pairs};
+pub use split::{Split, split_of, split_of_pairs};
 
 #[cfg(test)]
 mod plain;

@@ -1,15 +1,18 @@
 ghost use Rattle.std.specs.Prelude.{◌≡◌, ℤ, List, ◌≤◌, ◌<◌, ◌+◌, ◌*◌, ℕ, All, length, replicate, slice_index, unsigned_abs};
 ghost use Rattle.l3_tables.specs.Bands.{band_edges};
 ghost use Rattle.l3_region.specs.Split.{split_of};
-ghost use Rattle.l3_region.specs.Cut.{AreCutOf, as_lines};
+ghost use Rattle.l3_region.specs.Cut.{AreCutOf};
+ghost use Rattle.l3_region.specs.Pairs.{ArePairsOf};
 ghost use Rattle.l3_region.specs.Regions.{regions_of};
 ghost use Rattle.l3_region.specs.Laws.{HoldsAll, region};
 
-use crate::choice::{Row, best_pair, range_table};
+use crate::choice::{best_pair, range_table};
 use crate::cut::{cut_of, peaks_of};
+use crate::lanes::{band_classes, no_classes};
+use crate::pairs::pairs_of;
 use crate::quads::best_quads;
-use crate::split::{Split, split_of_cut};
-use crate::sums::sum_bands;
+use crate::split::{Split, split_in};
+use crate::sums::{Sums, sum_bands};
 use l3_base::SampleRate;
 use l3_huff::QuadTable;
 
@@ -30,47 +33,47 @@ pub struct Regions {
 
 // Room for the sums up to each band.
 #[inline(always)]
-fn no_sums() -> [Row; 23]
-    ensures { result ≡ replicate 23 (replicate 24 0) }
+fn no_sums() -> Sums
+    ensures { result ≡ replicate 16 (replicate 32 0) }
 {
-    [[0; 24]; 23]
+    [[0; 32]; 16]
 }
 
-// Room for the class of each band.
-#[inline(always)]
-fn no_classes() -> [u8; 22]
-    ensures { result ≡ replicate 22 0 }
-{
-    [0; 22]
-}
-
-// The regions and tables of cut values that are split so.
-fn regions_of_cut(cut: &[u8; 576], peaks: &[u16; 22], split: Split, rate: SampleRate) -> Regions
-    requires known { (q : List ℤ) × AreCutOf (band_edges rate) q cut.now peaks.now }
-    requires split { split ≡ split_of (as_lines cut.now) }
-    ensures value { (q : List ℤ) → AreCutOf (band_edges rate) q cut.now peaks.now → result ≡ regions_of (band_edges rate) q }
+/// The regions and tables that take the fewest bits, of values that are known by their packed
+/// pairs, 16 times the first and the second, each cut at 15, by the class of each whole band, and
+/// by their split.
+///
+/// It is what `best` gives for the values themselves. Errors: none.
+pub fn best_of_pairs(
+    pairs: &[u8; 288],
+    classes: &[u8; 32],
+    split: Split,
+    rate: SampleRate,
+) -> Regions
+    requires known { (q : List ℤ) × ArePairsOf (band_edges rate) q pairs.now classes.now × (split ≡ split_of q) }
+    ensures value { (q : List ℤ) → ArePairsOf (band_edges rate) q pairs.now classes.now → result ≡ regions_of (band_edges rate) q }
     ensures limit { result.bits ≤ 9216 }
     ensures first { result.region0 ≤ 15 }
     ensures second { result.region1 ≤ 7 }
     ensures within { result.region0 + result.region1 + 2 ≤ 22 }
     ensures three { length result.tables ≡ 3 }
-    ensures held { (q : List ℤ) → AreCutOf (band_edges rate) q cut.now peaks.now → (r : ℕ) → r < 3 → HoldsAll (slice_index result.tables r) (region (band_edges rate) q result.region0 result.region1 r) }
+    ensures held { (q : List ℤ) → ArePairsOf (band_edges rate) q pairs.now classes.now → (r : ℕ) → r < 3 → HoldsAll (slice_index result.tables r) (region (band_edges rate) q result.region0 result.region1 r) }
 {
-    let end = 2 * usize::from(split.big);
-    let mut rows = no_sums();
-    let mut classes = no_classes();
-    sum_bands(cut, peaks, end, rate.index(), &mut rows, &mut classes);
-    let pair = best_pair(&rows, &classes);
+    let big = usize::from(split.big);
+    let mut sums = no_sums();
+    let mut parts = no_classes();
+    sum_bands(pairs, classes, 2 * big, rate.index(), &mut sums, &mut parts);
+    let pair = best_pair(&sums, &parts);
     let region0 = pair.place / 8;
     let region1 = pair.place % 8;
     let second = usize::from(region0) + 1;
     let third = second + usize::from(region1) + 1;
     let tables = [
-        range_table(&rows, &classes, 0, second),
-        range_table(&rows, &classes, second, third),
-        range_table(&rows, &classes, third, 22),
+        range_table(&sums, &parts, 0, second),
+        range_table(&sums, &parts, second, third),
+        range_table(&sums, &parts, third, 22),
     ];
-    let quads = best_quads(cut, end, usize::from(split.quads));
+    let quads = best_quads(pairs, big, usize::from(split.quads));
     Regions {
         region0,
         region1,
@@ -95,8 +98,9 @@ pub fn best_of_cut(cut: &[u8; 576], peaks: &[u16; 22], rate: SampleRate) -> (Spl
     ensures three { length result.1.tables ≡ 3 }
     ensures held { (q : List ℤ) → AreCutOf (band_edges rate) q cut.now peaks.now → (r : ℕ) → r < 3 → HoldsAll (slice_index result.1.tables r) (region (band_edges rate) q result.1.region0 result.1.region1 r) }
 {
-    let split = split_of_cut(cut);
-    let regions = regions_of_cut(cut, peaks, split, rate);
+    let pairs = pairs_of(cut);
+    let split = split_in(&pairs);
+    let regions = best_of_pairs(&pairs, &band_classes(peaks), split, rate);
     (split, regions)
 }
 
@@ -116,5 +120,7 @@ pub fn best(q: &[i16; 576], split: Split, rate: SampleRate) -> Regions
     ensures three { length result.tables ≡ 3 }
     ensures held { (r : ℕ) → r < 3 → HoldsAll (slice_index result.tables r) (region (band_edges rate) q.now result.region0 result.region1 r) }
 {
-    regions_of_cut(&cut_of(q), &peaks_of(q, rate.index()), split, rate)
+    let pairs = pairs_of(&cut_of(q));
+    let peaks = peaks_of(q, rate.index());
+    best_of_pairs(&pairs, &band_classes(&peaks), split, rate)
 }

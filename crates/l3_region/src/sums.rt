@@ -1,66 +1,80 @@
 //! Sums of the bits of pairs up to each band, lane by lane, and the class of each band's greatest
 //! value.
 
-ghost use Rattle.std.specs.Prelude.{◌≡◌, ◌<◌, ◌≤◌, ◌+◌, ◌*◌, ◌/◌, ◌%◌, ◌^◌, ℕ, ℤ, List, All, length, min, nat_le, replicate, slice_index, slice_index_or, slice_range, []};
+ghost use Rattle.std.specs.Prelude.{◌≡◌, ◌≢◌, ◌<◌, ◌≤◌, ◌+◌, ◌*◌, ◌/◌, ◌%◌, ◌^◌, ℕ, ℤ, List, All, length, min, nat_le, replicate, slice_index, slice_index_or, slice_range, []};
 ghost use Rattle.std.specs.List.{list_all};
 ghost use Rattle.l3_tables.specs.Bands.{edge_at, edges_at};
-ghost use Rattle.l3_region.specs.Cut.{AreCutOf, as_lines};
 ghost use Rattle.l3_region.specs.Split.{end_of_pairs};
-ghost use Rattle.l3_region.specs.Lanes.{AreSums, AreSumsOf, CostsGrow, IsBandClass, lane_sum};
+ghost use Rattle.l3_region.specs.Lanes.{AreKept, AreSums, AreSumsOf, cell_at, rows_of, short_sum};
+ghost use Rattle.l3_region.specs.Pairs.{ArePairsOf, IsBandClass, lines_in};
 
-use crate::lanes::class_of;
+use crate::lanes::no_classes;
 use crate::rows::row;
 use l3_tables::edge;
 
+// Of each lane of tables up to table 24 the sum of the bits up to each band, and in lane 13 of the
+// number of values of 15 and more.
+//
+// Lanes 14 and 15 fill up the rows; edges 23 and 24 are edge 22 again.
+pub(crate) type Sums = [[u16; 32]; 16];
+
+// The class of each band, and 0 after the last one.
+pub(crate) type Classes = [u16; 32];
+
 // No bits in each lane.
 #[inline(always)]
-fn no_bits() -> [u16; 24]
-    ensures { result ≡ replicate 24 0 }
+fn no_bits() -> [u16; 16]
+    ensures { result ≡ replicate 16 0 }
 {
-    [0; 24]
-}
-
-// The place of a pair of cut values.
-#[inline(always)]
-fn place(x: u8, y: u8) -> usize
-    requires x { x ≤ 15 }
-    requires y { y ≤ 15 }
-    ensures value { result ≡ 16 * x + y }
-    ensures within { result < 256 }
-{
-    16 * usize::from(x) + usize::from(y)
+    [0; 16]
 }
 
 // Adds the bits of one pair.
 #[inline(always)]
-fn add_row(sums: &mut [u16; 24], row: &[u16; 24])
-    requires long { length sums.old ≡ 24 }
-    requires row { length row.now ≡ 24 }
-    requires room { (k : ℕ) → k < 24 → slice_index sums.old k + slice_index row.now k < 2 ^ 16 }
-    ensures sums { (k : ℕ) → k < 24 → slice_index sums.new k ≡ slice_index sums.old k + slice_index row.now k }
-    ensures long { length sums.new ≡ 24 }
+fn add_row(sums: &mut [u16; 16], row: &[u16; 16])
+    requires long { length sums.old ≡ 16 }
+    requires row { length row.now ≡ 16 }
+    requires room { (t : ℕ) → t < 16 → slice_index sums.old t + slice_index row.now t < 2 ^ 16 }
+    ensures sums { (t : ℕ) → t < 16 → slice_index sums.new t ≡ slice_index sums.old t + slice_index row.now t }
+    ensures long { length sums.new ≡ 16 }
 {
-    for k in 0..24 {
-        sums[k] += row[k];
+    for t in 0..16 {
+        sums[t] += row[t];
     }
 }
 
 // Adds the bits of the pairs from one to before another.
 #[inline(always)]
-fn add_pairs(cut: &[u8; 576], from: usize, to: usize, sums: &mut [u16; 24])
-    requires small { All (λ x. x ≤ 15) cut.now }
+fn add_pairs(pairs: &[u8; 288], from: usize, to: usize, sums: &mut [u16; 16])
     requires order { from ≤ to }
     requires within { to ≤ 288 }
-    requires long { length sums.old ≡ 24 }
-    requires before { (k : ℕ) → k < 24 → slice_index sums.old k ≡ lane_sum (as_lines cut.now) k from }
-    ensures sums { (k : ℕ) → k < 24 → slice_index sums.new k ≡ lane_sum (as_lines cut.now) k to }
-    ensures long { length sums.new ≡ 24 }
+    requires long { length sums.old ≡ 16 }
+    requires before { (t : ℕ) → t < 16 → slice_index sums.old t ≡ short_sum (lines_in pairs.now) t from }
+    ensures sums { (t : ℕ) → t < 16 → slice_index sums.new t ≡ short_sum (lines_in pairs.now) t to }
+    ensures long { length sums.new ≡ 16 }
 {
     let mut sum = *sums;
     for n in from..to {
-        add_row(&mut sum, row(place(cut[2 * n], cut[2 * n + 1])));
+        add_row(&mut sum, row(usize::from(pairs[n])));
     }
     *sums = sum;
+}
+
+// Writes the sums up to an edge.
+#[inline(always)]
+fn put(sums: &mut Sums, edge: usize, bits: &[u16; 16])
+    requires edge { edge < 25 }
+    requires bits { length bits.now ≡ 16 }
+    requires lanes { length sums.old ≡ 16 }
+    requires edges { (t : ℕ) → t < 16 → length (slice_index_or sums.old t []) ≡ 32 }
+    ensures here { (t : ℕ) → t < 16 → cell_at sums.new t edge ≡ slice_index bits.now t }
+    ensures others { (t b : ℕ) → t < 16 → b ≢ edge → cell_at sums.new t b ≡ cell_at sums.old t b }
+    ensures lanes { length sums.new ≡ 16 }
+    ensures edges { (t : ℕ) → t < 16 → length (slice_index_or sums.new t []) ≡ 32 }
+{
+    for t in 0..16 {
+        sums[t][edge] = bits[t];
+    }
 }
 
 // The greatest value.
@@ -75,70 +89,84 @@ pub(crate) fn greatest(values: &[u8]) -> u8
     greatest
 }
 
-// The greatest value of a band's part, which a cut value below 15 tells, and otherwise the greatest
-// one of the band, since all others are at most 1.
+// The class of the part of a band before the end of the pairs, from that of the whole band.
+//
+// Behind the end all values are at most 1: so a class of 2 and more is that of the part too, and
+// otherwise it tells whether the part has a value other than 0.
 #[inline(always)]
-fn peak_of_part(part: &[u8], peak: u16) -> u16
-    ensures { (m : ℕ) × ((n : ℕ) → list_all (λ x. nat_le x n) part.now ≡ nat_le m n) × (m < 15 → result ≡ m) × (15 ≤ m → result ≡ peak) }
+fn part_class(part: &[u8], whole: u16) -> u16
+    ensures high { 2 ≤ whole → result ≡ whole }
+    ensures low { whole < 2 → result < 2 }
+    ensures zeros { whole < 2 → list_all (λ x. nat_le x 0) part.now ≡ nat_le result 0 }
 {
-    let greatest = u16::from(greatest(part));
-    if greatest < 15 { greatest } else { peak }
+    if whole >= 2 {
+        whole
+    } else {
+        u16::from(greatest(part)).min(1)
+    }
 }
 
 // The class of a band's values before the line where the pairs end.
 #[inline(always)]
 fn band_class(
-    cut: &[u8; 576],
-    peaks: &[u16; 22],
+    pairs: &[u8; 288],
+    classes: &[u8; 32],
     rate: usize,
     end: usize,
     band: usize,
     from: usize,
-) -> u8
+) -> u16
     requires rate { rate < 3 }
     requires band { band < 22 }
     requires within { end ≤ 576 }
     requires from { from ≡ min (edge_at rate band) end }
-    requires ends { end ≡ end_of_pairs (as_lines cut.now) }
-    requires known { (q : List ℤ) × AreCutOf (edges_at rate) q cut.now peaks.now }
-    ensures value { IsBandClass cut.now peaks.now rate end band result }
+    requires ends { end ≡ end_of_pairs (lines_in pairs.now) }
+    requires known { (q : List ℤ) × ArePairsOf (edges_at rate) q pairs.now classes.now }
+    ensures value { IsBandClass pairs.now classes.now rate end band result }
     ensures small { result < 14 }
 {
-    class_of(if usize::from(edge(rate, band + 1)) <= end {
-        peaks[band]
+    let whole = u16::from(classes[band]);
+    if usize::from(edge(rate, band + 1)) <= end {
+        whole
     } else {
-        peak_of_part(&cut[from..end], peaks[band])
-    })
+        part_class(&pairs[from / 2..end / 2], whole)
+    }
 }
 
 // Writes the sums up to each band and the class of each band, all cut at the line where the pairs
-// end.
+// end, from the classes of the whole bands.
 pub(crate) fn sum_bands(
-    cut: &[u8; 576],
-    peaks: &[u16; 22],
+    pairs: &[u8; 288],
+    classes: &[u8; 32],
     end: usize,
     rate: usize,
-    rows: &mut [[u16; 24]; 23],
-    classes: &mut [u8; 22],
+    sums: &mut Sums,
+    parts: &mut Classes,
 )
     requires rate { rate < 3 }
     requires within { end ≤ 576 }
-    requires ends { end ≡ end_of_pairs (as_lines cut.now) }
-    requires known { (q : List ℤ) × AreCutOf (edges_at rate) q cut.now peaks.now }
-    requires rows { length rows.old ≡ 23 }
-    requires classes { length classes.old ≡ 22 }
-    ensures made { (q : List ℤ) → AreCutOf (edges_at rate) q cut.now peaks.now → AreSumsOf q rate end rows.new classes.new }
-    ensures ready { AreSums rows.new classes.new }
-    ensures grow { CostsGrow rows.new classes.new }
+    requires ends { end ≡ end_of_pairs (lines_in pairs.now) }
+    requires known { (q : List ℤ) × ArePairsOf (edges_at rate) q pairs.now classes.now }
+    requires lanes { length sums.old ≡ 16 }
+    requires edges { (t : ℕ) → t < 16 → length (slice_index_or sums.old t []) ≡ 32 }
+    ensures made { (q : List ℤ) → ArePairsOf (edges_at rate) q pairs.now classes.now → AreSumsOf q rate end (rows_of sums.new) parts.new }
+    ensures ready { AreSums (rows_of sums.new) parts.new }
+    ensures kept { AreKept sums.new }
+    ensures long { length parts.new ≡ 32 }
+    ensures few { (b : ℕ) → slice_index parts.new b < 14 }
 {
-    let mut sums = no_bits();
+    let mut sum = no_bits();
+    let mut own = no_classes();
     let mut from = 0usize;
     for band in 0..22usize {
-        rows[band] = sums;
-        classes[band] = band_class(cut, peaks, rate, end, band, from);
+        put(sums, band, &sum);
+        own[band] = band_class(pairs, classes, rate, end, band, from);
         let to = usize::from(edge(rate, band + 1)).min(end);
-        add_pairs(cut, from / 2, to / 2, &mut sums);
+        add_pairs(pairs, from / 2, to / 2, &mut sum);
         from = to;
     }
-    rows[22] = sums;
+    put(sums, 22, &sum);
+    put(sums, 23, &sum);
+    put(sums, 24, &sum);
+    *parts = own;
 }

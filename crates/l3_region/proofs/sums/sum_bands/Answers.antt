@@ -1,36 +1,77 @@
-use Rattle.std.proofs.Common.{◌≡◌, ℕ, List, [], ◌<◌, ◌+◌, ◌/◌, ◌%◌, ◌∙◌, get_or, length, arith, ap, sym, min}
-use Rattle.std.proofs.Math.ListN.{set}
+use Rattle.std.proofs.Common.{◌≡◌, ◌≢◌, ℕ, List, ◌<◌, ◌+◌, ◌/◌, ◌%◌, ◌∙◌, get_or, get_or-set_other, get_or-set_same, length, replicate, inl, inr, arith, ap, sym, min}
+use Rattle.std.proofs.lemmas.Bool.{cases_eq, cases_lt}
+use Rattle.std.proofs.lemmas.List.{get_or_past}
+use Rattle.std.proofs.Math.ListN.{set, length-set}
+use Rattle.l3_tables.proofs.ListLemmas.{filled_more}
 use Rattle.std.proofs.lemmas.Simd.{get_or-replicate}
 use Rattle.l3_tables.specs.Bands.{edge_at}
-use Rattle.l3_tables.proofs.ListLemmas.{filled_more}
 use Rattle.std.specs.Prelude.{ℤ}
-use Rattle.l3_region.specs.Cut.{as_lines}
+use Rattle.l3_region.specs.Pairs.{IsBandClass, lines_in, unpacked}
 use Rattle.l3_region.specs.Split.{end_of_pairs}
-use Rattle.l3_region.specs.Lanes.{IsBandClass, lane_sum}
-use Rattle.l3_region.proofs.CutLines.{cut_small, sums_same}
+use Rattle.l3_region.specs.Lanes.{cell_at, rows_of, short_sum}
+use Rattle.l3_region.proofs.CutLines.{sums_same}
+use Rattle.l3_region.proofs.Unpacked.{unpacked_same}
 use Rattle.l3_tables.proofs.Edges.{edge_first, edge_order}
-use Rattle.l3_region.proofs.LaneLemmas.{lane_sum-none}
+use Rattle.l3_region.proofs.Kept.{AreCells, cells_last, kept_from, rows_from, short_sum-none}
 use Rattle.l3_region.proofs.Ranges.{are_sums}
-use Rattle.l3_region.proofs.Composed.{costs_grow}
 use Rattle.l3_region.proofs.sums.sum_bands.Goals as goal
 
 end_even : (end : ℕ) (lines : List ℤ) → end ≡ end_of_pairs lines → end % 2 ≡ 0
 end_even end lines is = omega arith
 
+few_none : (classes : List ℕ) → classes ≡ replicate 32 0 → (b : ℕ) → get_or classes b 0 < 14
+few_none classes is b = elim (cases_lt b 32) [
+  | inl lt ↦ (let e = ap (λ xs. get_or xs b 0) is ∙ get_or-replicate {A = ℕ} 32 b 0 0 lt in omega (arith, e))
+  | inr ge ↦ (let long = ap length is in let e = get_or_past classes b 0 (omega (arith, long, ge)) in omega (arith, e))
+]
+
 pub loop-band-init : goal.loop-band-init
 loop-band-init c =
-    let sums = c.no_bits-sums.result in
-    let none = c.no_bits-sums.ensures in
+    let none = c.no_bits-sum.ensures in
     record {
       start = omega (arith, edge_first c.args.rate c.requires.rate);
       long = ap length none;
-      sums = λ k lt. ap (λ s. get_or s k 0) none ∙ (get_or-replicate 24 k 0 0 lt ∙ sym (lane_sum-none (as_lines c.args.cut.now) k));
-      rows_long = c.requires.rows;
-      classes_long = c.requires.classes;
-      rows = λ b lt. absurd (omega arith);
-      row_long = λ b lt. absurd (omega arith);
-      classed = λ b lt. absurd (omega arith);
-      few = λ b lt. absurd (omega arith);
+      sum = λ t lt. ap (λ s. get_or s t 0) none ∙ (get_or-replicate 16 t 0 0 lt ∙ sym (short_sum-none (lines_in c.args.pairs.now) t));
+      lanes = c.requires.lanes;
+      edges = c.requires.edges;
+      cells = λ t b lt less. absurd (omega arith);
+      own_long = ap length c.no_classes-own.ensures;
+      own = λ b lt. absurd (omega arith);
+      few = few_none c.no_classes-own.result c.no_classes-own.ensures;
+    }
+
+few_more : (classes : List ℕ) (i v : ℕ) → i < length classes → v < 14 → ((b : ℕ) → get_or classes b 0 < 14) → (b : ℕ) → get_or (set classes i v) b 0 < 14
+few_more classes i v lt small few b = elim (cases_eq b i) [
+  | inl same ↦ (let e = get_or-set_same classes i v 0 lt in let at = ap (λ j. get_or (set classes i v) j 0) same in omega (arith, e, at))
+  | inr other ↦ (let ne : b ≢ i = other in let e = get_or-set_other classes i b v 0 ne in omega (arith, e, few b))
+]
+
+pub loop-band-preserved : goal.loop-band-preserved
+loop-band-preserved c =
+    let inv = c.loop-band.invariant in
+    let rate = c.args.rate in
+    let end = c.args.end in
+    let lines = lines_in c.args.pairs.now in
+    let band : ℕ = c.loop-band.band in
+    let own = c.loop-band.own in
+    let class = c.band_class.result in
+    let room : band < length own = omega (arith, inv.own_long, c.loop-band-test.true) in
+    record {
+      start = omega (arith, c.min-to.ensures, c.from.ensures, c.edge.ensures.value);
+      long = c.add_pairs.ensures.long;
+      sum = c.add_pairs.ensures.sums;
+      lanes = c.put.ensures.lanes;
+      edges = c.put.ensures.edges;
+      cells = λ t b lt less. elim (cases_lt b band) [
+        | inl before ↦ c.put.ensures.others t b lt (omega arith) ∙ inv.cells t b lt before
+        | inr here ↦
+            (let same : b ≡ band = omega arith in
+            ap (cell_at c.put.new.sums t) same
+            ∙ (c.put.ensures.here t lt ∙ (inv.sum t lt ∙ (ap (λ n. short_sum lines t (n / 2)) inv.start ∙ ap (λ i. short_sum lines t (min (edge_at rate i) end / 2)) (sym same)))))
+      ];
+      own_long = length-set own band class ∙ inv.own_long;
+      own = filled_more (λ b v. IsBandClass c.args.pairs.now c.args.classes.now rate end b v) own band class 0 room inv.own c.band_class.ensures.value;
+      few = few_more own band class room c.band_class.ensures.small inv.few;
     }
 
 -- from one edge to the next
@@ -38,39 +79,44 @@ pub add_pairs-requires-clause-order : goal.add_pairs-requires-clause-order
 add_pairs-requires-clause-order c =
     omega (arith, edge_order c.args.rate c.loop-band.band (c.loop-band.band + 1) c.requires.rate (omega arith) (omega arith), c.loop-band.invariant.start, c.edge.ensures.value, c.from.ensures, c.min-to.ensures)
 
-pub add_pairs-requires-clause-small : goal.add_pairs-requires-clause-small
-add_pairs-requires-clause-small c = cut_small c.requires.known.0 c.args.cut.now c.requires.known.1.cut_is
+pub returns-clause-kept : goal.returns-clause-kept
+returns-clause-kept c =
+    let rate = c.args.rate in
+    let end = c.args.end in
+    let lines = lines_in c.args.pairs.now in
+    let inv = c.loop-band.invariant in
+    let last : c.loop-band.band ≡ 22 = omega arith in
+    let start : c.loop-band.from ≡ min (edge_at rate 22) end = inv.start ∙ ap (λ b. min (edge_at rate b) end) last in
+    let cells : AreCells lines rate end c.put-4.new.sums =
+    cells_last lines rate end c.loop-band.sums c.put-2.new.sums c.put-3.new.sums c.put-4.new.sums c.loop-band.sum (λ t b lt less. inv.cells t b lt (omega arith)) (λ t lt. inv.sum t (omega arith) ∙ ap (λ n. short_sum lines t (n / 2)) start)
+    c.put-2.ensures.here c.put-2.ensures.others c.put-3.ensures.here c.put-3.ensures.others c.put-4.ensures.here c.put-4.ensures.others in
+    kept_from lines rate end c.put-4.new.sums c.requires.rate c.requires.within c.put-4.ensures.lanes c.put-4.ensures.edges cells
 
 pub returns-clause-made : goal.returns-clause-made
 unfolding IsBandClass
 returns-clause-made c = λ q is.
     let rate = c.args.rate in
     let end = c.args.end in
-    let cut = c.args.cut.now in
-    let lines = as_lines cut in
+    let pairs = c.args.pairs.now in
+    let lines = lines_in pairs in
     let inv = c.loop-band.invariant in
     let last : c.loop-band.band ≡ 22 = omega arith in
     let start : c.loop-band.from ≡ min (edge_at rate 22) end = inv.start ∙ ap (λ b. min (edge_at rate b) end) last in
-    let P : ℕ → List ℕ → Type 0 = λ b row. (k : ℕ) → k < 24 → get_or row k 0 ≡ lane_sum lines k (min (edge_at rate b) end / 2) in
-    let rows : (b : ℕ) → b < 22 + 1 → P b (get_or (set c.loop-band.rows 22 c.loop-band.sums) b []) =
-    filled_more P c.loop-band.rows 22 c.loop-band.sums [] (omega (arith, inv.rows_long)) (λ b lt. inv.rows b (omega arith)) (λ k lk. inv.sums k lk ∙ ap (λ n. lane_sum lines k (n / 2)) start) in
+    let cells : AreCells lines rate end c.put-4.new.sums =
+    cells_last lines rate end c.loop-band.sums c.put-2.new.sums c.put-3.new.sums c.put-4.new.sums c.loop-band.sum (λ t b lt less. inv.cells t b lt (omega arith)) (λ t lt. inv.sum t (omega arith) ∙ ap (λ n. short_sum lines t (n / 2)) start)
+    c.put-2.ensures.here c.put-2.ensures.others c.put-3.ensures.here c.put-3.ensures.others c.put-4.ensures.here c.put-4.ensures.others in
     record {
       rate_small = c.requires.rate;
       even = end_even end lines c.requires.ends;
       within = c.requires.within;
       long = is.long;
       codable = is.codable;
-      sums = λ b k lt lk. rows b (omega arith) k lk ∙ sums_same q cut k (min (edge_at rate b) end / 2) is.cut_is;
-      classed = λ b lt. inv.classed b (omega arith) q is;
-      few = λ b lt. inv.few b (omega arith);
+      sums = λ b k lt lk. rows_from lines rate end c.put-4.new.sums cells b k lt lk ∙ sums_same q (unpacked pairs) k (min (edge_at rate b) end / 2) (unpacked_same q pairs c.args.classes.now c.told-pairs is);
+      classed = λ b lt. inv.own b (omega arith) q is;
+      few = λ b lt. inv.few b;
     }
 
 pub returns-clause-ready : goal.returns-clause-ready
 returns-clause-ready c =
     let known = c.requires.known in
-    are_sums known.0 c.args.rate c.args.end (set c.loop-band.rows 22 c.loop-band.sums) c.loop-band.classes (returns-clause-made c known.0 known.1)
-
-pub returns-clause-grow : goal.returns-clause-grow
-returns-clause-grow c =
-    let known = c.requires.known in
-    costs_grow known.0 c.args.rate c.args.end (set c.loop-band.rows 22 c.loop-band.sums) c.loop-band.classes (returns-clause-made c known.0 known.1)
+    are_sums known.0 c.args.rate c.args.end (rows_of c.put-4.new.sums) c.loop-band.own (returns-clause-made c known.0 known.1)
