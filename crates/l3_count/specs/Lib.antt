@@ -8,7 +8,7 @@ pub use Rattle.l3_quant.specs.Magnitudes
 pub use Rattle.l3_huff.specs.Tables
 pub use Rattle.l3_region.specs.Bands
 pub use Rattle.l3_region.specs.Peaks
-pub use Rattle.l3_region.specs.Cut
+pub use Rattle.l3_region.specs.Pairs
 pub use Rattle.l3_region.specs.Split
 pub use Rattle.l3_region.specs.Regions
 pub use Rattle.l3_region.specs.Laws as RegionLaws

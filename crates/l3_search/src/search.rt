@@ -10,7 +10,7 @@ ghost use Rattle.l3_count.specs.Memo.{IsLaneOf, lane_of};
 ghost use Rattle.l3_search.specs.Gain.{HasLaneTo, IsLeastWithin, lacking, picked, picked_gain, tried_of};
 
 use l3_base::{Amp, SampleRate, Spectrum, Steps};
-use l3_count::{Count, Memo, count_with};
+use l3_count::{Count, Memo, count_over};
 use l3_planes::{Planes, no_planes, set};
 use l3_quant::{first_gain_with, line_peaks};
 use std::sync::ledger::Ledger;
@@ -96,13 +96,9 @@ fn make<L: Ledger + Send>(
     ensures kept { IsLaneOf (band_edges rate) spec.now (lane_of memo.new lane) }
 {
     prepare(spec, peaks, rate, prepared);
-    match count_with(spec, peaks, &prepared.planes, rate, amp, gain, steps) {
-        None => unreachable!(),
-        Some(count) => {
-            memo.put(lane, count);
-            count
-        }
-    }
+    let count = count_over(&prepared.planes, rate, amp, gain, steps);
+    memo.put(lane, count);
+    count
 }
 
 // The lane's count at a gain that is no less than the first one, or where it has none, one that is
