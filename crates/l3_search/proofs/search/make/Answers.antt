@@ -1,4 +1,4 @@
-use Rattle.std.proofs.Common.{◌≡◌, Some, ◌∙◌, pos, sym, arith}
+use Rattle.std.proofs.Common.{◌≡◌, Some, ◌∙◌, pos, sym, arith, rules}
 use Rattle.l3_quant.specs.Quantiser.{IsCodable}
 use Rattle.l3_quant.specs.Amplified.{quantised_bands}
 use Rattle.l3_count.specs.Bands.{band_edges}
@@ -8,11 +8,11 @@ use Rattle.l3_search.proofs.Fits.{counted_at, counted_under}
 use Rattle.l3_search.proofs.Counts.{HasLaneTo-put, IsLaneOf-more}
 use Rattle.l3_search.proofs.search.make.Goals as goal
 
-pub count_over-requires : goal.count_over-requires
-count_over-requires g c =
+pub count_over-count-requires : goal.count_over-count-requires
+count_over-count-requires g c =
     let edges = band_edges c.args.rate in
     let codable = first_gain_of-codable edges c.args.amp.now c.args.spec.now c.args.gain (omega arith) c.requires.first in
-    (c.args.spec.now, c.prepare.ensures, codable)
+    (search rules, (c.args.spec.now, c.prepare.ensures, codable))
 
 pub put-requires-clause-amp : goal.put-requires-clause-amp
 put-requires-clause-amp g c =
