@@ -169,11 +169,31 @@ pub fn pick<L: Ledger + Send>(
     let peaks = line_peaks(spec, rate);
     let mut prepared = unprepared();
     let mut gain = start(spec, &peaks, rate, amp);
-    let mut found = look_up(spec, &peaks, rate, amp, lane, gain, &mut prepared, memo, steps);
+    let mut found = look_up(
+        spec,
+        &peaks,
+        rate,
+        amp,
+        lane,
+        gain,
+        &mut prepared,
+        memo,
+        steps,
+    );
     let mut made = found.made;
     while found.count.bits() > budget {
         gain += 1;
-        found = look_up(spec, &peaks, rate, amp, lane, gain, &mut prepared, memo, steps);
+        found = look_up(
+            spec,
+            &peaks,
+            rate,
+            amp,
+            lane,
+            gain,
+            &mut prepared,
+            memo,
+            steps,
+        );
         made += found.made;
     }
     Picked {
