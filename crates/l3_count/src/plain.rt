@@ -14,13 +14,14 @@ pub type Told = (u32, u16, u16, u8, u8, [u8; 3]);
 pub fn told(count: &Count) -> Told {
     let split = count.split();
     let regions = count.regions();
+    let tables = regions.tables;
     (
         regions.bits,
         split.big,
         split.quads,
         regions.region0,
         regions.region1,
-        regions.tables,
+        tables,
     )
 }
 
@@ -30,13 +31,14 @@ pub fn plain(spec: &Spectrum, rate: SampleRate, amp: &Amp, gain: u8) -> Option<T
     if all_amp(spec, rate, amp, gain, &mut values) {
         let split = split_of(&values);
         let regions = best(&values, split, rate);
+        let tables = regions.tables;
         Some((
             regions.bits,
             split.big,
             split.quads,
             regions.region0,
             regions.region1,
-            regions.tables,
+            tables,
         ))
     } else {
         None
