@@ -8,10 +8,11 @@ pub use Rattle.l3_quant.specs.Magnitudes
 pub use Rattle.l3_huff.specs.Tables
 pub use Rattle.l3_region.specs.Bands
 pub use Rattle.l3_region.specs.Peaks
-pub use Rattle.l3_region.specs.Cut
+pub use Rattle.l3_region.specs.Pairs
 pub use Rattle.l3_region.specs.Split
 pub use Rattle.l3_region.specs.Regions
 pub use Rattle.l3_region.specs.Laws as RegionLaws
+pub use Rattle.l3_planes.specs.Units as PlanesOfUnits
 pub mod Count
 pub mod Laws
 pub mod Memo

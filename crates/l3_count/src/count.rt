@@ -1,10 +1,11 @@
 ghost use Rattle.std.specs.Prelude.{◌≡◌, ◌≤◌, ◌<◌, ◌+◌, ◌*◌, ℕ, ℤ, List, length, slice_index};
 ghost use Rattle.l3_region.specs.Bands.{band_edges};
-ghost use Rattle.l3_region.specs.Cut.{AreCutOf};
+ghost use Rattle.l3_region.specs.Pairs.{ArePairsOf};
+ghost use Rattle.l3_region.specs.Split.{split_of};
 ghost use Rattle.l3_huff.specs.Tables.{IsTable};
 
 use l3_base::{Amp, SampleRate};
-use l3_region::{QuadTable, Regions, Split, best_of_cut};
+use l3_region::{QuadTable, Regions, Split, best_of_pairs};
 use std::marker::Model;
 
 // All that a count says but its amplification, in 12 bytes. There are at most 144 quadruples.
@@ -113,20 +114,23 @@ impl Count {
     }
 
     // The count under an amplification and at a gain of quantised values that are known by their
-    // absolute values cut at 15 and by the greatest one of each band.
-    pub(crate) fn of_cut(
-        cut: &[u8; 576],
-        peaks: &[u16; 22],
+    // pairs, the classes of their bands and their split.
+    #[inline(always)]
+    pub(crate) fn of_pairs(
+        pairs: &[u8; 288],
+        classes: &[u8; 32],
+        split: Split,
         rate: SampleRate,
         amp: &Amp,
         gain: u8,
     ) -> Count
-        requires { (q : List ℤ) × AreCutOf (band_edges rate) q cut.now peaks.now }
-        ensures { (q : List ℤ) → AreCutOf (band_edges rate) q cut.now peaks.now → result ≡ counted (band_edges rate) amp.now gain q }
+        requires known { (q : List ℤ) × ArePairsOf (band_edges rate) q pairs.now classes.now × (split ≡ split_of q) }
+        requires places { 2 * split.big + 4 * split.quads ≤ 576 }
+        ensures { (q : List ℤ) → ArePairsOf (band_edges rate) q pairs.now classes.now → split ≡ split_of q → result ≡ counted (band_edges rate) amp.now gain q }
     {
         // For the proof: an amplification is 21 numbers of 0 to 3.
         let _first = amp.get(0);
-        let (split, regions) = best_of_cut(cut, peaks, rate);
+        let regions = best_of_pairs(pairs, classes, split, rate);
         let tables = regions.tables;
         Count {
             amp: *amp,

@@ -1,29 +1,25 @@
-ghost use Rattle.std.specs.Prelude.{◌≡◌, ◌+◌, ◌<◌, Any, IfNone, IfSome, pos, replicate, unsigned_abs};
+ghost use Rattle.std.specs.Prelude.{◌≡◌, ◌<◌, ◌≤◌, ◌+◌, ◌*◌, ℕ, ℤ, List, Any, IfNone, IfSome, Some, length, pos, unsigned_abs};
 ghost use Rattle.l3_quant.specs.Quantiser.{IsCodable};
 ghost use Rattle.l3_quant.specs.Amplified.{quantised_bands};
-ghost use Rattle.l3_quant.specs.Magnitudes.{AreLinePeaks};
 ghost use Rattle.l3_region.specs.Bands.{band_edges};
+ghost use Rattle.l3_region.specs.Pairs.{ArePairsOf};
+ghost use Rattle.l3_region.specs.Split.{split_of};
+ghost use Rattle.l3_planes.specs.Units.{ArePlanesOf};
 ghost use Rattle.l3_count.specs.Count.{count_of};
 
 use crate::count::Count;
 use l3_base::{Amp, SampleRate, Spectrum, Steps};
-use l3_quant::{band_peaks, cut_values, line_peaks};
+use l3_planes::{Planes, classes_at, is_codable_at, no_planes, pairs_at, set, split_at};
+use l3_quant::line_peaks;
+use l3_region::{Split, split_of_pairs};
 use std::sync::ledger::Ledger;
 
-// Room for 576 absolute values.
+// Room for 288 pairs.
 #[inline(always)]
-fn no_values() -> [u8; 576]
-    ensures { result ≡ replicate 576 0 }
+fn no_pairs() -> [u8; 288]
+    ensures { length result ≡ 288 }
 {
-    [0; 576]
-}
-
-// Room for the peaks of 22 bands.
-#[inline(always)]
-fn no_peaks() -> [u16; 22]
-    ensures { result ≡ replicate 22 0 }
-{
-    [0; 22]
+    [0; 288]
 }
 
 /// What a unit costs at a gain under an amplification, or `None` exactly where a quantised value is
@@ -40,32 +36,47 @@ pub fn count_at<L: Ledger + Send>(
     ensures none { IfNone result (Any (λ q. 8191 < unsigned_abs q) (quantised_bands (band_edges rate) amp.now (pos gain) spec.now)) }
     ensures ticks { steps.new ≡ steps.old + 1 }
 {
-    count_with(spec, &line_peaks(spec, rate), rate, amp, gain, steps)
+    let mut planes = no_planes();
+    set(&mut planes, spec, &line_peaks(spec, rate));
+    if is_codable_at(&planes, amp, gain) {
+        Some(count_over(&planes, rate, amp, gain, steps))
+    } else {
+        steps.tick();
+        None
+    }
 }
 
-/// The same over the spectrum's greatest line of each band, which serve all gains and
-/// amplifications and are made once by `line_peaks`.
-pub fn count_with<L: Ledger + Send>(
-    spec: &Spectrum,
-    peaks: &[u32; 22],
+// The split of a unit, whose pairs at the gain are made.
+#[inline(always)]
+fn split_over(planes: &Planes, pairs: &[u8; 288], amp: &Amp, gain: u8) -> Split
+    ensures places { 2 * result.big + 4 * result.quads ≤ 576 }
+    ensures value { (rate : SampleRate) (lines : List ℤ) (classes : List ℕ) → ArePlanesOf (band_edges rate) lines planes.now → ArePairsOf (band_edges rate) (quantised_bands (band_edges rate) amp.now (pos gain) lines) pairs.now classes →
+        result ≡ split_of (quantised_bands (band_edges rate) amp.now (pos gain) lines) }
+{
+    if *amp == Amp::zero() {
+        split_at(planes, gain)
+    } else {
+        split_of_pairs(pairs)
+    }
+}
+
+/// The same over a spectrum's planes, which serve all gains and amplifications, at a gain at which
+/// it can be coded.
+pub fn count_over<L: Ledger + Send>(
+    planes: &Planes,
     rate: SampleRate,
     amp: &Amp,
     gain: u8,
     steps: &mut Steps<L>,
-) -> Option<Count>
-    requires peaks { AreLinePeaks (band_edges rate) spec.now peaks.now }
-    ensures value { result ≡ count_of (band_edges rate) amp.now spec.now gain }
-    ensures some { IfSome result (λ c. IsCodable (quantised_bands (band_edges rate) amp.now (pos gain) spec.now)) }
-    ensures none { IfNone result (Any (λ q. 8191 < unsigned_abs q) (quantised_bands (band_edges rate) amp.now (pos gain) spec.now)) }
+) -> Count
+    requires { (lines : List ℤ) × ArePlanesOf (band_edges rate) lines planes.now × IsCodable (quantised_bands (band_edges rate) amp.now (pos gain) lines) }
+    ensures value { (lines : List ℤ) → ArePlanesOf (band_edges rate) lines planes.now → IsCodable (quantised_bands (band_edges rate) amp.now (pos gain) lines) → count_of (band_edges rate) amp.now lines gain ≡ Some result }
     ensures ticks { steps.new ≡ steps.old + 1 }
 {
     steps.tick();
-    let mut quantised = no_peaks();
-    if band_peaks(peaks, amp, gain, &mut quantised) {
-        let mut cut = no_values();
-        cut_values(spec, rate, amp, gain, &mut cut);
-        Some(Count::of_cut(&cut, &quantised, rate, amp, gain))
-    } else {
-        None
-    }
+    let mut pairs = no_pairs();
+    pairs_at(planes, rate, amp, gain, &mut pairs);
+    let classes = classes_at(planes, amp, gain);
+    let split = split_over(planes, &pairs, amp, gain);
+    Count::of_pairs(&pairs, &classes, split, rate, amp, gain)
 }

@@ -1,5 +1,6 @@
 ghost use Rattle.std.specs.Prelude.{◌≡◌, ◌<◌, ◌+◌};
 
+use crate::plain::{Told, plain, told};
 use crate::{Count, Memo, count_at};
 use l3_base::{Amp, SampleRate, Spectrum, Steps};
 use std::marker::Brand;
@@ -71,6 +72,80 @@ fn bits_of_one_line(rt: HostRuntime) {
             bits,
             "at {line}, {first}, {gain}"
         );
+    }
+}
+
+// Some lines, each with its value, and zeros.
+fn lines(places: [(usize, i32); 4]) -> Spectrum {
+    let mut spec = Spectrum::zero();
+    for (place, line) in places {
+        if place < 576 && line.unsigned_abs() < 1 << 29 {
+            spec.set(place, line);
+        }
+    }
+    spec
+}
+
+// What the count over planes says, and what the plain one does.
+fn both<L: Ledger + Send>(
+    blank: Blank,
+    spec: &Spectrum,
+    rate: SampleRate,
+    amp: &Amp,
+    gain: u8,
+) -> (Option<Told>, Option<Told>)
+    requires name { blank.name ≡ L.name }
+    requires parts { blank.parts ≡ L.parts }
+    requires some { 0 < blank.parts }
+{
+    let mut steps: Steps<L> = Steps::start(blank);
+    let over_planes = match count_at(spec, rate, amp, gain, &mut steps) {
+        Some(count) => Some(told(&count)),
+        None => None,
+    };
+    (over_planes, plain(spec, rate, amp, gain))
+}
+
+// Bands begin at line 30 at all three sampling frequencies, and at 418, 384 and 550; the lines of
+// the cases are quantised to 13 and 15 and more, to 14, 15 and 16, to 8191 and 8190, and to 8192.
+#[test]
+fn over_planes_and_plain(rt: HostRuntime) {
+    let one = 1 << 24;
+    let cases = [
+        ([(0, one), (29, -one), (30, one), (575, 1)], false, 190),
+        ([(383, one), (384, -one), (418, one), (550, one)], true, 189),
+        (
+            [(0, 8845261), (1, 9697540), (6, 10568984), (9, 0)],
+            true,
+            186,
+        ),
+        (
+            [(3, 14944368), (30, 14941935), (99, 0), (9, 999)],
+            false,
+            140,
+        ),
+        (
+            [(3, 14944368), (30, 14946800), (99, 0), (9, 999)],
+            false,
+            140,
+        ),
+    ];
+    for rate in [
+        SampleRate::Hz44100,
+        SampleRate::Hz48000,
+        SampleRate::Hz32000,
+    ] {
+        for (places, first, gain) in cases {
+            let amp = amplification(first);
+            let (over_planes, plain) = both::<Brand>(
+                Blank::new(1),
+                &lines(places),
+                rate,
+                &amp,
+                gain,
+            );
+            assert!(rt; over_planes == plain, "at {gain}");
+        }
     }
 }
 

@@ -1,15 +1,17 @@
-ghost use Rattle.std.specs.Prelude.{◌≡◌, ◌≤◌, ◌<◌, ◌+◌, All, Some};
+ghost use Rattle.std.specs.Prelude.{◌≡◌, ◌≤◌, ◌<◌, ◌+◌, All, Some, true, false};
 ghost use Rattle.l3_base.specs.Amp.{IsAmp};
 ghost use Rattle.l3_base.specs.Spectrum.{IsLine};
 ghost use Rattle.l3_quant.specs.Gains.{first_gain_of};
 ghost use Rattle.l3_quant.specs.Magnitudes.{AreLinePeaks};
+ghost use Rattle.l3_planes.specs.Units.{ArePlanesOf};
 ghost use Rattle.l3_count.specs.Bands.{band_edges};
 ghost use Rattle.l3_count.specs.Count.{count_of};
 ghost use Rattle.l3_count.specs.Memo.{IsLaneOf, lane_of};
 ghost use Rattle.l3_search.specs.Gain.{HasLaneTo, IsLeastWithin, lacking, picked, picked_gain, tried_of};
 
 use l3_base::{Amp, SampleRate, Spectrum, Steps};
-use l3_count::{Count, Memo, count_with};
+use l3_count::{Count, Memo, count_over};
+use l3_planes::{Planes, no_planes, set};
 use l3_quant::{first_gain_with, line_peaks};
 use std::sync::ledger::Ledger;
 
@@ -20,6 +22,38 @@ pub struct Picked {
     pub count: Count,
     /// How many counts were made for it, 0 to 256.
     pub made: u16,
+}
+
+// Planes that are made before the first count.
+#[derive(Drop)]
+struct Prepared {
+    made: bool,
+    planes: Planes,
+}
+
+// Planes that are not made yet.
+#[inline(always)]
+fn unprepared() -> Prepared
+    ensures { result.made ≡ false }
+{
+    Prepared {
+        made: false,
+        planes: no_planes(),
+    }
+}
+
+// Makes the planes of a spectrum, unless they are made.
+#[inline(always)]
+fn prepare(spec: &Spectrum, peaks: &[u32; 22], rate: SampleRate, prepared: &mut Prepared)
+    requires peaks { AreLinePeaks (band_edges rate) spec.now peaks.now }
+    requires own { prepared.old.made ≡ true → ArePlanesOf (band_edges rate) spec.now prepared.old.planes }
+    ensures { ArePlanesOf (band_edges rate) spec.now prepared.new.planes }
+{
+    let _rate = rate;
+    if !prepared.made {
+        set(&mut prepared.planes, spec, peaks);
+        prepared.made = true;
+    }
 }
 
 // The first gain of a spectrum, whose greatest line of each band is known.
@@ -45,6 +79,7 @@ fn make<L: Ledger + Send>(
     amp: &Amp,
     lane: u8,
     gain: u8,
+    prepared: &mut Prepared,
     memo: &mut Memo,
     steps: &mut Steps<L>,
 ) -> Count
@@ -53,18 +88,17 @@ fn make<L: Ledger + Send>(
     requires first { first_gain_of (band_edges rate) amp.now spec.now ≤ gain }
     requires amp { (lane_of memo.old lane).amp ≡ amp.now }
     requires memo { IsLaneOf (band_edges rate) spec.now (lane_of memo.old lane) }
+    requires own { prepared.old.made ≡ true → ArePlanesOf (band_edges rate) spec.now prepared.old.planes }
+    ensures own { prepared.new.made ≡ true → ArePlanesOf (band_edges rate) spec.now prepared.new.planes }
     ensures count { count_of (band_edges rate) amp.now spec.now gain ≡ Some result }
     ensures ticks { steps.new ≡ steps.old + 1 }
     ensures memo { HasLaneTo (band_edges rate) amp.now spec.now lane gain gain memo.old memo.new }
     ensures kept { IsLaneOf (band_edges rate) spec.now (lane_of memo.new lane) }
 {
-    match count_with(spec, peaks, rate, amp, gain, steps) {
-        None => unreachable!(),
-        Some(count) => {
-            memo.put(lane, count);
-            count
-        }
-    }
+    prepare(spec, peaks, rate, prepared);
+    let count = count_over(&prepared.planes, rate, amp, gain, steps);
+    memo.put(lane, count);
+    count
 }
 
 // The lane's count at a gain that is no less than the first one, or where it has none, one that is
@@ -76,6 +110,7 @@ fn look_up<L: Ledger + Send>(
     amp: &Amp,
     lane: u8,
     gain: u8,
+    prepared: &mut Prepared,
     memo: &mut Memo,
     steps: &mut Steps<L>,
 ) -> Picked
@@ -84,6 +119,8 @@ fn look_up<L: Ledger + Send>(
     requires first { first_gain_of (band_edges rate) amp.now spec.now ≤ gain }
     requires amp { (lane_of memo.old lane).amp ≡ amp.now }
     requires memo { IsLaneOf (band_edges rate) spec.now (lane_of memo.old lane) }
+    requires own { prepared.old.made ≡ true → ArePlanesOf (band_edges rate) spec.now prepared.old.planes }
+    ensures own { prepared.new.made ≡ true → ArePlanesOf (band_edges rate) spec.now prepared.new.planes }
     ensures count { count_of (band_edges rate) amp.now spec.now gain ≡ Some result.count }
     ensures made { result.made ≡ lacking (lane_of memo.old lane).counts gain gain }
     ensures one { result.made ≤ 1 }
@@ -94,7 +131,7 @@ fn look_up<L: Ledger + Send>(
     match memo.get(lane, gain) {
         Some(count) => Picked { count, made: 0 },
         None => {
-            let count = make(spec, peaks, rate, amp, lane, gain, memo, steps);
+            let count = make(spec, peaks, rate, amp, lane, gain, prepared, memo, steps);
             Picked { count, made: 1 }
         }
     }
@@ -130,12 +167,33 @@ pub fn pick<L: Ledger + Send>(
     ensures kept { IsLaneOf (band_edges rate) spec.now (lane_of memo.new lane) }
 {
     let peaks = line_peaks(spec, rate);
+    let mut prepared = unprepared();
     let mut gain = start(spec, &peaks, rate, amp);
-    let mut found = look_up(spec, &peaks, rate, amp, lane, gain, memo, steps);
+    let mut found = look_up(
+        spec,
+        &peaks,
+        rate,
+        amp,
+        lane,
+        gain,
+        &mut prepared,
+        memo,
+        steps,
+    );
     let mut made = found.made;
     while found.count.bits() > budget {
         gain += 1;
-        found = look_up(spec, &peaks, rate, amp, lane, gain, memo, steps);
+        found = look_up(
+            spec,
+            &peaks,
+            rate,
+            amp,
+            lane,
+            gain,
+            &mut prepared,
+            memo,
+            steps,
+        );
         made += found.made;
     }
     Picked {

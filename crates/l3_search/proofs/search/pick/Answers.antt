@@ -24,6 +24,7 @@ loop-found-init g c =
       made = c.look_up-found.ensures.made ∙ ap (λ (k : ℕ). lacking (lane_of c.args.memo.now c.args.lane).counts k gain) is;
       ticks = c.look_up-found.ensures.ticks;
       memo = HasLaneTo-named edges amp lines c.args.lane gain gain (first_gain_of edges amp lines) gain c.args.memo.now c.look_up-found.new.memo is refl c.look_up-found.ensures.memo;
+      own = c.look_up-found.ensures.own;
       kept = c.look_up-found.ensures.kept;
     }
 
@@ -65,6 +66,7 @@ loop-found-preserved g c =
       made = omega arith;
       ticks = omega arith;
       memo = HasLaneTo-more edges amp lines c.args.lane first gain c.args.memo.now c.loop-found.memo c.look_up-found-in-loop-found.new.memo (omega arith) inv.memo next.memo;
+      own = next.own;
       kept = next.kept;
     }
 

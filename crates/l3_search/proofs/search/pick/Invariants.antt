@@ -1,5 +1,6 @@
-use Rattle.std.proofs.Common.{◌≡◌, ℕ, ◌+◌, ◌-◌, ◌<◌, ◌≤◌, Some, false}
+use Rattle.std.proofs.Common.{◌≡◌, ℕ, ◌+◌, ◌-◌, ◌<◌, ◌≤◌, Some, false, true}
 use Rattle.l3_quant.specs.Gains.{first_gain_of}
+use Rattle.l3_planes.specs.Units.{ArePlanesOf}
 use Rattle.l3_count.specs.Bands.{band_edges}
 use Rattle.l3_count.specs.Count.{count_of}
 use Rattle.l3_count.specs.Memo.{IsLaneOf, lane_of}
@@ -15,6 +16,7 @@ invariant-loop-found g l = record {
   made : l.made ≡ lacking (lane_of l.fn.memo l.lane).counts (first_gain_of (band_edges l.rate) l.amp l.spec) l.gain;
   ticks : l.steps ≡ l.fn.steps + l.made;
   memo : HasLaneTo (band_edges l.rate) l.amp l.spec l.lane (first_gain_of (band_edges l.rate) l.amp l.spec) l.gain l.fn.memo l.memo;
+  own : l.prepared.made ≡ true → ArePlanesOf (band_edges l.rate) l.spec l.prepared.planes;
   kept : IsLaneOf (band_edges l.rate) l.spec (lane_of l.memo l.lane);
 }
 

@@ -1,0 +1,10 @@
+pub mod Cuts
+pub mod Ranks
+pub mod Constants
+pub mod Lines
+pub mod Counts
+pub mod Ends
+pub mod Classes
+pub mod GainLemmas
+pub mod MarkLemmas
+pub mod Codable

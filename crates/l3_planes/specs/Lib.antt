@@ -1,0 +1,10 @@
+pub use Rattle.l3_region.specs.Bands
+pub use Rattle.l3_quant.specs.Amp
+pub use Rattle.l3_quant.specs.Amplified
+pub use Rattle.l3_quant.specs.Magnitudes
+pub mod Planes
+pub mod Rows
+pub mod Marks
+pub mod Ends
+pub mod Classes
+pub mod Units

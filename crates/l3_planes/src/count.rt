@@ -1,0 +1,102 @@
+ghost use Rattle.std.specs.Prelude.{◌≡◌, ℕ, List, ℤ, ◌+◌, ◌*◌, ◌<◌, ◌≤◌, ◌<ℤ◌, ◌≤ℤ◌, length, min, pos, replicate, slice_index, slice_index_or};
+ghost use Rattle.l3_planes.specs.Rows.{line_at, AreRows, AreTops};
+ghost use Rattle.l3_planes.specs.Marks.{cut_at, AreMarks};
+
+// No counts yet.
+#[inline(always)]
+fn no_counts() -> [u8; 32]
+    ensures { result ≡ replicate 32 0 }
+{
+    [0; 32]
+}
+
+// The count, and 1 more where the plane is above the mark.
+#[inline(always)]
+fn counted(count: u8, plane: i8, mark: i8) -> u8
+    requires { count < 15 }
+    ensures above { mark <ℤ plane → result ≡ count + 1 }
+    ensures others { plane ≤ℤ mark → result ≡ count }
+{
+    count + u8::from(mark < plane)
+}
+
+// The counts with 1 more where the plane of a row is above the mark of its cell.
+#[inline(always)]
+fn with_row(
+    counts: &[u8; 32],
+    rows: &[i8; 8640],
+    row: usize,
+    marks: &[i8; 576],
+    block: usize,
+) -> [u8; 32]
+    requires row { row < 270 }
+    requires block { block < 18 }
+    requires room { (j : ℕ) → j < 32 → slice_index counts.now j < 15 }
+    ensures long { length result ≡ 32 }
+    ensures above { (j : ℕ) → j < 32 → slice_index_or marks.now (32 * block + j) (pos 0) <ℤ slice_index_or rows.now (32 * row + j) (pos 0) → slice_index result j ≡ slice_index counts.now j + 1 }
+    ensures others { (j : ℕ) → j < 32 → slice_index_or rows.now (32 * row + j) (pos 0) ≤ℤ slice_index_or marks.now (32 * block + j) (pos 0) → slice_index result j ≡ slice_index counts.now j }
+{
+    let mut more = no_counts();
+    for j in 0..32 {
+        more[j] = counted(counts[j], rows[32 * row + j], marks[32 * block + j]);
+    }
+    more
+}
+
+// The values of a block's cells, cut at 15. Rows from the first on that no plane of the block
+// reaches are left out.
+#[inline(always)]
+fn count_block(
+    rows: &[i8; 8640],
+    tops: &[i8; 270],
+    block: usize,
+    marks: &[i8; 576],
+    least: i8,
+) -> [u8; 32]
+    requires { block < 18 }
+    ensures long { length result ≡ 32 }
+    ensures value { (lines : List ℤ) (steps : ℕ → ℕ) → AreRows lines rows.now → AreTops rows.now tops.now → AreMarks steps marks.now least → (j : ℕ) → j < 32 →
+        slice_index result j ≡ cut_at lines steps (line_at (32 * block + j)) }
+    ensures bound { (j : ℕ) → j < 32 → slice_index result j ≤ 15 }
+{
+    let mut counts = no_counts();
+    for k in 0..15 {
+        if tops[15 * block + k] <= least {
+            return counts;
+        }
+        counts = with_row(&counts, rows, 15 * block + k, marks, block);
+    }
+    counts
+}
+
+// Writes the pairs of a block's values: 16 times the first and the second.
+#[inline(always)]
+fn write_pairs(counts: &[u8; 32], block: usize, out: &mut [u8; 288])
+    requires block { block < 18 }
+    requires small { (j : ℕ) → j < 32 → slice_index counts.now j ≤ 15 }
+    requires long { length out.old ≡ 288 }
+    ensures long { length out.new ≡ 288 }
+    ensures value { (j : ℕ) → j < 16 → slice_index out.new (16 * block + j) ≡ 16 * slice_index counts.now j + slice_index counts.now (16 + j) }
+    ensures before { (i : ℕ) → i < 16 * block → slice_index out.new i ≡ slice_index out.old i }
+{
+    for j in 0..16 {
+        out[16 * block + j] = 16 * counts[j] + counts[16 + j];
+    }
+}
+
+// Writes the pairs of all cut values, for marks of which none is less than `least`.
+pub(crate) fn count_pairs(
+    rows: &[i8; 8640],
+    tops: &[i8; 270],
+    marks: &[i8; 576],
+    least: i8,
+    out: &mut [u8; 288],
+)
+    ensures { (lines : List ℤ) (steps : ℕ → ℕ) → AreRows lines rows.now → AreTops rows.now tops.now → AreMarks steps marks.now least → (i : ℕ) → i < 288 →
+        slice_index out.new i ≡ 16 * cut_at lines steps (2 * i) + cut_at lines steps (2 * i + 1) }
+{
+    for block in 0..18 {
+        let counts = count_block(rows, tops, block, marks, least);
+        write_pairs(&counts, block, out);
+    }
+}
