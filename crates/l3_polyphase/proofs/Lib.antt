@@ -6,3 +6,5 @@ pub mod HalvingLaw
 pub mod BothEnds
 pub mod ColumnSlots
 pub mod SharedSlots
+pub mod Pairing
+pub mod PairSums

@@ -5,6 +5,7 @@ ghost use Rattle.l3_tables.specs.Sums.{IsWithin};
 ghost use Rattle.l3_tables.specs.Filterbank.{slot_sum, slots_of, turned, turned_slot};
 ghost use Rattle.l3_polyphase.specs.Samples.{HasShape, before_newest};
 
+use crate::rows::make_rows;
 use crate::subbands::subbands;
 use l3_base::Slots36;
 
@@ -15,7 +16,9 @@ pub fn slot(window: &[i16; 512], out: &mut [i32; 32])
     ensures value { out.new ≡ tabulate 32 (slot_sum (entry window.now)) }
     ensures bound { All (IsWithin 44598016) out.new }
 {
-    subbands(&in_time(window), out);
+    let mut rows = [[0i16; 64]; 15];
+    make_rows(&in_time(window), 0, &mut rows);
+    subbands(&rows, 0, out);
 }
 
 // 512 samples, the newest first, in order of time.
@@ -41,6 +44,13 @@ pub fn slots36(window: &[i16; 1632], out: &mut Slots36)
     fill_from(window, 0, out);
 }
 
+// Rows of zeros.
+fn no_rows() -> [[i16; 64]; 50]
+    ensures { length result ≡ 50 }
+{
+    [[0; 64]; 50]
+}
+
 // Fills in the slots of a window from slot `from` on, those before being there already.
 pub(crate) fn fill_from(window: &[i16; 1632], from: usize, out: &mut Slots36)
     requires from { from ≤ 36 }
@@ -51,8 +61,10 @@ pub(crate) fn fill_from(window: &[i16; 1632], from: usize, out: &mut Slots36)
     ensures bound { All (All (IsWithin 44598016)) out.new }
 {
     let mut slots = [0i32; 32];
+    let mut rows = no_rows();
+    make_rows(window, from, &mut rows);
     for k in from..36 {
-        subbands(&window[32 * k..32 * k + 512], &mut slots);
+        subbands(&rows, k, &mut slots);
         set_slots(out, k, &slots);
     }
 }

@@ -2,11 +2,11 @@ ghost use Rattle.std.specs.Prelude.{◌≡◌, ◌<◌, ◌^◌, ℕ, unsigned_a
 ghost use Rattle.l3_tables.specs.Lists.{entry, tabulate};
 ghost use Rattle.l3_tables.specs.Filterbank.{subband_sum};
 ghost use Rattle.l3_polyphase.specs.Fold.{folded_column, folded_columns_sum};
-ghost use Rattle.l3_polyphase.specs.Samples.{column_in};
 
 /// Folds the 64 columns of a slot to 32, which halves the products of each subband.
 ///
-/// Shape: columns in order of their number, each below 2^50 in absolute value.
+/// Shape: columns in order of their number, each below 2^50 in absolute value. The filterbank itself
+/// folds samples and window entries of 16 bits, before the columns are added up.
 pub fn fold64(y: &[i64; 64], u: &mut [i64; 32])
     requires { (k : ℕ) → k < 64 → unsigned_abs (entry y.now k) < 2 ^ 50 }
     ensures value { u.new ≡ tabulate 32 (folded_column (entry y.now)) }
@@ -18,19 +18,5 @@ pub fn fold64(y: &[i64; 64], u: &mut [i64; 32])
     }
     for j in 17..32 {
         u[j] = y[16 + j] - y[80 - j];
-    }
-}
-
-// The same of 64 columns of which the last one stands first.
-pub(crate) fn fold_columns(y: &[i64; 64], u: &mut [i64; 32])
-    requires { (k : ℕ) → k < 64 → unsigned_abs (column_in y.now k) < 2 ^ 50 }
-    ensures { (j : ℕ) → j < 32 → entry u.new j ≡ folded_column (column_in y.now) j }
-{
-    u[0] = y[47];
-    for j in 1..17 {
-        u[j] = y[47 - j] + y[47 + j];
-    }
-    for j in 17..32 {
-        u[j] = y[47 - j] - y[j - 17];
     }
 }

@@ -12,6 +12,7 @@ mod filterbank;
 mod fold;
 mod following;
 mod kept;
+mod rows;
 mod subbands;
 
 pub use filterbank::{slot, slots36};

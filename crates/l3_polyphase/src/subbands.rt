@@ -1,13 +1,12 @@
-ghost use Rattle.std.specs.Prelude.{◌≡◌, ◌+◌, ◌*◌, ◌<◌, ◌≤◌, ◌^◌, ℕ, All, ◌+ℤ◌, pos, length};
+ghost use Rattle.std.specs.Prelude.{◌≡◌, ◌+◌, ◌*◌, ◌<◌, ◌≤◌, ◌^◌, ℕ, ℤ, All, ◌+ℤ◌, pos, length};
 ghost use Rattle.l3_tables.specs.Lists.{entry, tabulate};
 ghost use Rattle.l3_tables.specs.Sums.{floor_div, IsWithin};
-ghost use Rattle.l3_tables.specs.Filterbank.{subband_sum, slot_sum};
+ghost use Rattle.l3_tables.specs.Filterbank.{slot_sum};
 ghost use Rattle.l3_polyphase.specs.Fold.{folded_columns_sum, part_sum};
-ghost use Rattle.l3_polyphase.specs.Samples.{before_newest, column_in};
+ghost use Rattle.l3_polyphase.specs.Pairs.{AreTaps};
 
 use crate::coefficients::cosine;
 use crate::columns::columns;
-use crate::fold::fold_columns;
 use l3_tables::add_product;
 
 // Every `step`-th folded column from `start`, `count` of them, each times its cosine for subband
@@ -72,23 +71,13 @@ fn slots_of_folded(columns: &[i64; 32], out: &mut [i32; 32])
     }
 }
 
-// The slots of the 32 subbands of 64 columns, the last one first.
-fn slots_of_columns(sums: &[i64; 64], out: &mut [i32; 32])
-    requires small { (k : ℕ) → k < 64 → IsWithin (2 ^ 35) (column_in sums.now k) }
-    ensures long { length out.new ≡ 32 }
-    ensures value { (i : ℕ) → i < 32 → entry out.new i ≡ floor_div (subband_sum (column_in sums.now) i +ℤ pos (2 ^ 26)) (2 ^ 27) }
+// The slots of the 32 subbands of slot `k` of some rows.
+pub(crate) fn subbands(rows: &[[i16; 64]], k: usize, out: &mut [i32; 32])
+    requires { k + 14 < length rows.now }
+    ensures value { (newest : ℕ → ℤ) → AreTaps newest rows.now k → out.new ≡ tabulate 32 (slot_sum newest) }
+    ensures bound { (newest : ℕ → ℤ) → AreTaps newest rows.now k → All (IsWithin 44598016) out.new }
 {
     let mut folded = [0i64; 32];
-    fold_columns(sums, &mut folded);
+    columns(rows, k, &mut folded);
     slots_of_folded(&folded, out);
-}
-
-// The slots of the 32 subbands of 512 samples in order of time.
-pub(crate) fn subbands(samples: &[i16], out: &mut [i32; 32])
-    requires { length samples.now ≡ 512 }
-    ensures value { out.new ≡ tabulate 32 (slot_sum (before_newest samples.now)) }
-    ensures bound { All (IsWithin 44598016) out.new }
-{
-    let sums = columns(samples);
-    slots_of_columns(&sums, out);
 }
