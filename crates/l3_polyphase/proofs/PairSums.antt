@@ -11,7 +11,7 @@ use Rattle.l3_tables.specs.Sums.{sum_below}
 use Rattle.l3_tables.specs.Window.{window_at}
 use Rattle.l3_tables.specs.Filterbank.{column_sum}
 use Rattle.l3_tables.proofs.Entries.{within_same, not_above_at}
-use Rattle.l3_tables.proofs.SumLemmas.{abs_add, times_add, sum_below-same, sum_below-add, sum_below-scale, sum_below-none}
+use Rattle.l3_tables.proofs.SumLemmas.{abs_add, times_add, sum_below-same, sum_below-add}
 use Rattle.l3_polyphase.specs.Fold.{folded_column}
 use Rattle.l3_polyphase.specs.Pairs.{IsTap, other_column, other_entry, pair_entry, high_part, low_entry, pair_sum, reach, reach_below}
 use Rattle.l3_polyphase.proofs.FoldLaw.{times_sub, neg_times, at_first, at_low, at_high}

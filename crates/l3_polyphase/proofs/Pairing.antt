@@ -1,8 +1,7 @@
 -- Rows of pairs: lists that are filled two places at a time.
-use Rattle.std.proofs.Common.{◌≡◌, ◌≢◌, ℕ, ◌+◌, ◌-◌, ◌*◌, ◌<◌, List, length, get_or-set_other, get_or-set_same, below_more, ℤ, pos, arith}
+use Rattle.std.proofs.Common.{◌≢◌, ℕ, ◌+◌, ◌*◌, ◌<◌, List, length, get_or-set_other, get_or-set_same, below_more, ℤ, arith}
 use Rattle.std.proofs.Math.ListN.{set, length-set}
 use Rattle.l3_tables.specs.Lists.{entry}
-use Rattle.l3_polyphase.specs.Pairs.{other_column}
 
 -- pair j is set: it and those before have what they were to have
 pub pairs_filled : (P Q : ℕ → ℤ → Type 0) (xs : List ℤ) (j : ℕ) (a b : ℤ) → 2 * j + 1 < length xs →

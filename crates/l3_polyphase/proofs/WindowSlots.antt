@@ -1,15 +1,13 @@
 -- The slots of a window, as the kernels find them.
-use Rattle.std.proofs.Common.{◌≡◌, ℕ, ◌+◌, ◌-◌, ◌*◌, ◌<◌, Bool, true, false, List, take, drop, ℤ, pos, neg_ℤ, arith, ap, ◌∙◌}
+use Rattle.std.proofs.Common.{ℕ, ◌<◌, Bool, true, false, ℤ, pos, neg_ℤ, arith}
 use Rattle.std.proofs.lemmas.Int.{ints}
 use Rattle.std.proofs.lemmas.List.Elements.{All-from_get_or}
-use Rattle.std.proofs.lemmas.List.{get_or-take, get_or-drop}
 use Rattle.std.specs.Prelude.{All, if◌then◌else◌}
-use Rattle.l3_tables.specs.Lists.{entry, tabulate}
+use Rattle.l3_tables.specs.Lists.{tabulate}
 use Rattle.l3_tables.specs.Sums.{IsWithin}
-use Rattle.l3_tables.specs.Filterbank.{slot_sum, window_slot, turned}
+use Rattle.l3_tables.specs.Filterbank.{slot_sum, turned}
 use Rattle.l3_tables.proofs.ListLemmas.{length-tabulate, get_or-tabulate}
-use Rattle.l3_tables.proofs.Slots.{AreSamples, slot_sum-same, slot_sum_small}
-use Rattle.l3_polyphase.specs.Samples.{before_newest}
+use Rattle.l3_tables.proofs.Slots.{AreSamples, slot_sum_small}
 
 pub tabulated_small : (newest : ℕ → ℤ) → AreSamples newest → All (IsWithin 44598016) (tabulate 32 (slot_sum newest))
 tabulated_small newest samples =

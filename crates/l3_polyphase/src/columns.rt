@@ -32,8 +32,7 @@ fn pair_sums(row: &[i16; 64], entries: &[i16; 64]) -> [i32; 32]
 {
     let mut sums = [0i32; 32];
     for j in 0..32 {
-        sums[j] =
-            product(entries[2 * j], row[2 * j]) + product(entries[2 * j + 1], row[2 * j + 1]);
+        sums[j] = product(entries[2 * j], row[2 * j]) + product(entries[2 * j + 1], row[2 * j + 1]);
     }
     sums
 }

@@ -29,15 +29,18 @@ pub(crate) fn slots36_after(before: &[i16; 1632], window: &[i16; 1632], slots: &
 }
 
 // Whether a window begins with the last 1056 samples of the one before.
+//
+// All of them are compared, eight at once.
 fn follows(before: &[i16; 1632], window: &[i16; 1632]) -> bool
     ensures { OnTrue result ((n : ℕ) → n < 1056 → entry window.now n ≡ entry before.now (n + 576)) }
 {
+    let mut same = true;
     for n in 0..1056 {
         if window[n] != before[n + 576] {
-            return false;
+            same = false;
         }
     }
-    true
+    same
 }
 
 // Moves the last 18 slots of each subband to its front.

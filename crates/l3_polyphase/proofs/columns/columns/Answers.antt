@@ -1,4 +1,4 @@
-use Rattle.std.proofs.Common.{rules, ◌≡◌, ◌≤◌, ◌*◌, ◌+◌, ◌-◌, ◌/◌, ◌%◌, ◌+ℤ◌, ◌*ℤ◌, ℕ, ◌<◌, ◌^◌, pos, ℤ, List, to_z, of_z, w32, w64, FitsSigned, arith, ap, sym, ◌∙◌}
+use Rattle.std.proofs.Common.{rules, ◌≡◌, ◌≤◌, ◌*◌, ◌+◌, ◌-◌, ◌/◌, ◌%◌, ◌+ℤ◌, ◌*ℤ◌, ℕ, pos, ℤ, List, to_z, of_z, w32, w64, FitsSigned, arith, ap, ◌∙◌}
 use Rattle.std.specs.Prelude.{unsigned_abs}
 use Rattle.l3_tables.specs.Lists.{entry}
 use Rattle.l3_tables.specs.Sums.{sum_below, IsWithin}

@@ -1,6 +1,6 @@
-use Rattle.std.proofs.Common.{rules, ◌≡◌, ◌≤◌, ◌*◌, ◌+◌, ◌+ℤ◌, ℕ, ◌<◌, pos, ℤ, to_z, of_z, w32, FitsSigned, arith, ap, ◌∙◌}
+use Rattle.std.proofs.Common.{rules, ◌≡◌, ◌≤◌, ◌*◌, ◌+◌, ◌+ℤ◌, pos, to_z, of_z, w32, arith, ap, ◌∙◌}
 use Rattle.std.proofs.Math.ListN.{length-set}
-use Rattle.std.proofs.lemmas.Int.{ints, to_z-of_z, fits_signed_from_abs}
+use Rattle.std.proofs.lemmas.Int.{ints}
 use Rattle.std.specs.Prelude.{unsigned_abs}
 use Rattle.l3_tables.specs.Lists.{entry}
 use Rattle.l3_tables.proofs.Entries.{within_same}

@@ -1,6 +1,5 @@
-use Rattle.std.proofs.Common.{◌≡◌, ℕ, ◌<◌, ◌^◌, ◌+ℤ◌, length}
+use Rattle.std.proofs.Common.{◌≡◌, ℕ, ◌<◌, ◌+ℤ◌, length}
 use Rattle.l3_tables.specs.Lists.{entry}
-use Rattle.l3_tables.specs.Sums.{IsWithin}
 use Rattle.l3_polyphase.proofs.columns.high_sums.Given as goal
 
 abbrev pub invariant-loop-j : goal.invariant-loop-j

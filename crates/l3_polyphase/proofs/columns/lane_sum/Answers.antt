@@ -1,8 +1,7 @@
 use Rattle.std.proofs.Common.{◌≡◌, ◌≤◌, ◌+◌, ◌*◌, ◌+ℤ◌, to_z, of_z, w32, FitsSigned, ℤ, arith, sym, ap, ◌∙◌}
-use Rattle.std.proofs.lemmas.Int.{ints, to_z-of_z, fits_signed_from_abs}
+use Rattle.std.proofs.lemmas.Int.{to_z-of_z, fits_signed_from_abs}
 use Rattle.std.specs.Prelude.{unsigned_abs}
 use Rattle.l3_tables.specs.Lists.{entry}
-use Rattle.l3_tables.specs.Sums.{sum_below}
 use Rattle.l3_tables.proofs.SumLemmas.{sum_below-none, sum_below-more, abs_add}
 use Rattle.l3_polyphase.specs.Pairs.{row_in, reach, reach_below}
 use Rattle.l3_polyphase.proofs.PairSums.{reach-small, reach_below-more}

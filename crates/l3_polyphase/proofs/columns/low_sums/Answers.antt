@@ -1,4 +1,4 @@
-use Rattle.std.proofs.Common.{rules, ◌≡◌, pos, to_z, of_z, w32, FitsSigned, arith, ◌∙◌}
+use Rattle.std.proofs.Common.{rules, ◌≡◌, pos, w32, FitsSigned, arith, ◌∙◌}
 use Rattle.std.proofs.Math.ListN.{length-set}
 use Rattle.std.proofs.lemmas.Int.{to_z-of_z}
 use Rattle.l3_tables.specs.Lists.{entry}
