@@ -14,9 +14,9 @@ ghost use Rattle.l3_commit.specs.Tried.{tried_at};
 
 use crate::track::{GranuleDone, Track};
 use crate::window::fill;
-use l3_base::{Channels, GranuleNo, Settings, Slots36, Spectrum, Steps};
+use l3_base::{Channels, GranuleNo, Settings, Spectrum, Steps};
 use l3_mdct::spectrum;
-use l3_polyphase::slots36;
+use l3_polyphase::Kept;
 use l3_search::Memo;
 use l3_stream::ChosenFrame;
 use l3_wav::Pcm;
@@ -35,7 +35,8 @@ pub struct Committer {
     left_lines: Spectrum,
     right_lines: Spectrum,
     window: [i16; 1632],
-    slots: Slots36,
+    left_slots: Kept,
+    right_slots: Kept,
     memo: Memo,
 }
 
@@ -70,20 +71,21 @@ fn granules(samples: usize) -> u64
     }
 }
 
-// Makes the spectrum of a granule of samples.
+// Makes the spectrum of a granule of samples, `slots` having the slots of any granule of them: those
+// that the two share are not made anew.
 fn transform(
     samples: &[i16],
     granule: u64,
     window: &mut [i16; 1632],
-    slots: &mut Slots36,
+    slots: &mut Kept,
     lines: &mut Spectrum,
 )
     requires { granule ≤ 8589934592 }
     ensures { lines.new ≡ spectrum_of_granule samples.now granule }
 {
     fill(window, samples, granule);
-    slots36(window, slots);
-    spectrum(slots, lines);
+    slots.go_on(window);
+    spectrum(slots.slots(), lines);
 }
 
 // A window of zeros.
@@ -110,7 +112,8 @@ impl Committer {
             left_lines: Spectrum::zero(),
             right_lines: Spectrum::zero(),
             window: no_window(),
-            slots: Slots36::zero(),
+            left_slots: Kept::zero(),
+            right_slots: Kept::zero(),
             memo: Memo::new(),
         }
     }
@@ -144,7 +147,7 @@ impl Committer {
             &self.pcm.left,
             granule,
             &mut self.window,
-            &mut self.slots,
+            &mut self.left_slots,
             &mut self.left_lines,
         );
         if self.track.channels() == Channels::Stereo {
@@ -152,7 +155,7 @@ impl Committer {
                 &self.pcm.right,
                 granule,
                 &mut self.window,
-                &mut self.slots,
+                &mut self.right_slots,
                 &mut self.right_lines,
             );
         }

@@ -1,4 +1,4 @@
-use crate::spectrum;
+use crate::{fold36, spectrum};
 use l3_base::{Slots36, Spectrum};
 
 #[test]
@@ -22,4 +22,20 @@ fn lines_of_two_subbands(rt: HostRuntime) {
     assert_eq!(rt; out.lines()[71], 156708);
     assert_eq!(rt; out.lines()[72], -226047);
     assert_eq!(rt; out.lines()[79], 198510);
+}
+
+// The squares of 1 to 36.
+#[rattlefmt::skip]
+static SQUARES: [i64; 36] = [
+    1, 4, 9, 16, 25, 36, 49, 64, 81, 100, 121, 144,
+    169, 196, 225, 256, 289, 324, 361, 400, 441, 484, 529, 576,
+    625, 676, 729, 784, 841, 900, 961, 1024, 1089, 1156, 1225, 1296,
+];
+
+// 1 - 324, 81 - 100, 361 + 1296 and 729 + 784.
+#[test]
+fn slots_folded(rt: HostRuntime) {
+    let mut t = [0i64; 18];
+    fold36(&SQUARES, &mut t);
+    assert_eq!(rt; (t[0], t[8], t[9], t[17]), (-323, -19, 1657, 1513));
 }

@@ -20,7 +20,7 @@ sum_below-pairs (suc n) f =
     omega (arith, ints, whole, sum_below-pairs n f)
 
 -- each term with the other sign
-sum_below-neg : (n : ℕ) (f : ℕ → ℤ) → sum_below n (λ m. neg_ℤ (f m)) ≡ neg_ℤ (sum_below n f)
+pub sum_below-neg : (n : ℕ) (f : ℕ → ℤ) → sum_below n (λ m. neg_ℤ (f m)) ≡ neg_ℤ (sum_below n f)
 unfolding sum_below
 sum_below-neg zero f = refl
 sum_below-neg (suc n) f = omega (arith, ints, sum_below-neg n f)

@@ -5,3 +5,6 @@ pub mod FoldLaw
 pub mod HalvingLaw
 pub mod BothEnds
 pub mod ColumnSlots
+pub mod SharedSlots
+pub mod Pairing
+pub mod PairSums

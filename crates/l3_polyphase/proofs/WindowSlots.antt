@@ -1,25 +1,13 @@
 -- The slots of a window, as the kernels find them.
-use Rattle.std.proofs.Common.{◌≡◌, ℕ, ◌+◌, ◌-◌, ◌*◌, ◌<◌, Bool, true, false, List, take, drop, ℤ, pos, neg_ℤ, arith, ap, ◌∙◌}
+use Rattle.std.proofs.Common.{ℕ, ◌<◌, Bool, true, false, ℤ, pos, neg_ℤ, arith}
 use Rattle.std.proofs.lemmas.Int.{ints}
 use Rattle.std.proofs.lemmas.List.Elements.{All-from_get_or}
-use Rattle.std.proofs.lemmas.List.{get_or-take, get_or-drop}
 use Rattle.std.specs.Prelude.{All, if◌then◌else◌}
-use Rattle.l3_tables.specs.Lists.{entry, tabulate}
+use Rattle.l3_tables.specs.Lists.{tabulate}
 use Rattle.l3_tables.specs.Sums.{IsWithin}
-use Rattle.l3_tables.specs.Filterbank.{slot_sum, window_slot, turned}
+use Rattle.l3_tables.specs.Filterbank.{slot_sum, turned}
 use Rattle.l3_tables.proofs.ListLemmas.{length-tabulate, get_or-tabulate}
-use Rattle.l3_tables.proofs.Slots.{AreSamples, slot_sum-same, slot_sum_small}
-use Rattle.l3_polyphase.specs.Samples.{before_newest}
-
--- 512 samples of the window, from sample 32 k
-pub slot_is : (window samples slots : List ℤ) (i k : ℕ) → i < 32 → slots ≡ tabulate 32 (slot_sum (before_newest samples)) → ((m : ℕ) → m < 512 → entry samples m ≡ entry window (32 * k + m)) → entry slots i ≡ window_slot window i k
-unfolding window_slot
-slot_is window samples slots i k low e part =
-    ap (λ xs. entry xs i) e
-    ∙ (get_or-tabulate 32 i (slot_sum (before_newest samples)) (pos 0) low
-    ∙ slot_sum-same (before_newest samples) (λ n. entry window (32 * k + 511 - n)) i (λ n lt.
-    let place : 32 * k + (511 - n) ≡ 32 * k + 511 - n = omega arith in
-    part (511 - n) (omega arith) ∙ ap (entry window) place))
+use Rattle.l3_tables.proofs.Slots.{AreSamples, slot_sum_small}
 
 pub tabulated_small : (newest : ℕ → ℤ) → AreSamples newest → All (IsWithin 44598016) (tabulate 32 (slot_sum newest))
 tabulated_small newest samples =
@@ -33,7 +21,3 @@ turned_by false x bound small = small
 
 pub turned_small : (i k : ℕ) (x : ℤ) (bound : ℕ) → IsWithin bound x → IsWithin bound (turned i k x)
 turned_small i k x bound small = turned_by _ x bound small
-
--- sample m of a part of the window
-pub part_entry : (window : List ℤ) (at len m : ℕ) → len ≡ 512 → m < 512 → entry (take len (drop at window)) m ≡ entry window (at + m)
-part_entry window at len m whole lt = get_or-take len (drop at window) m (pos 0) (omega arith) ∙ get_or-drop at window m (pos 0)

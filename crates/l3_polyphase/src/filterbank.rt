@@ -1,10 +1,11 @@
-ghost use Rattle.std.specs.Prelude.{◌≡◌, ◌≢◌, ◌<◌, ◌^◌, ℕ, All, pos, length};
+ghost use Rattle.std.specs.Prelude.{◌≡◌, ◌≢◌, ◌<◌, ◌≤◌, ◌^◌, ℕ, All, pos, length};
 ghost use Rattle.l3_base.specs.Slots.{slot_in};
 ghost use Rattle.l3_tables.specs.Lists.{entry, tabulate};
 ghost use Rattle.l3_tables.specs.Sums.{IsWithin};
-ghost use Rattle.l3_tables.specs.Filterbank.{slot_sum, slots_of, turned};
+ghost use Rattle.l3_tables.specs.Filterbank.{slot_sum, slots_of, turned, turned_slot};
 ghost use Rattle.l3_polyphase.specs.Samples.{HasShape, before_newest};
 
+use crate::rows::make_rows;
 use crate::subbands::subbands;
 use l3_base::Slots36;
 
@@ -15,7 +16,9 @@ pub fn slot(window: &[i16; 512], out: &mut [i32; 32])
     ensures value { out.new ≡ tabulate 32 (slot_sum (entry window.now)) }
     ensures bound { All (IsWithin 44598016) out.new }
 {
-    subbands(&in_time(window), out);
+    let mut rows = [[0i16; 64]; 15];
+    make_rows(&in_time(window), 0, &mut rows);
+    subbands(&rows, 0, out);
 }
 
 // 512 samples, the newest first, in order of time.
@@ -37,10 +40,31 @@ pub fn slots36(window: &[i16; 1632], out: &mut Slots36)
     ensures value { out.new ≡ slots_of window.now }
     ensures bound { All (All (IsWithin 44598016)) out.new }
 {
-    let mut slots = [0i32; 32];
     *out = Slots36::zero();
-    for k in 0..36 {
-        subbands(&window[32 * k..32 * k + 512], &mut slots);
+    fill_from(window, 0, out);
+}
+
+// Rows of zeros.
+fn no_rows() -> [[i16; 64]; 50]
+    ensures { length result ≡ 50 }
+{
+    [[0; 64]; 50]
+}
+
+// Fills in the slots of a window from slot `from` on, those before being there already.
+pub(crate) fn fill_from(window: &[i16; 1632], from: usize, out: &mut Slots36)
+    requires from { from ≤ 36 }
+    requires shape { HasShape out.old }
+    requires value { (i k : ℕ) → i < 32 → k < from → slot_in out.old i k ≡ turned_slot window.now i k }
+    requires small { (i k : ℕ) → i < 32 → k < from → IsWithin 44598016 (slot_in out.old i k) }
+    ensures value { out.new ≡ slots_of window.now }
+    ensures bound { All (All (IsWithin 44598016)) out.new }
+{
+    let mut slots = [0i32; 32];
+    let mut rows = no_rows();
+    make_rows(window, from, &mut rows);
+    for k in from..36 {
+        subbands(&rows, k, &mut slots);
         set_slots(out, k, &slots);
     }
 }

@@ -1,13 +1,12 @@
-ghost use Rattle.std.specs.Prelude.{◌≡◌, ◌+◌, ◌*◌, ◌<◌, ◌≤◌, ◌^◌, ℕ, All, ◌+ℤ◌, pos, length};
+ghost use Rattle.std.specs.Prelude.{◌≡◌, ◌+◌, ◌*◌, ◌<◌, ◌≤◌, ◌^◌, ℕ, ℤ, All, ◌+ℤ◌, pos, length};
 ghost use Rattle.l3_tables.specs.Lists.{entry, tabulate};
 ghost use Rattle.l3_tables.specs.Sums.{floor_div, IsWithin};
-ghost use Rattle.l3_tables.specs.Filterbank.{subband_sum, slot_sum};
-ghost use Rattle.l3_polyphase.specs.Fold.{folded_columns_sum, part_sum};
-ghost use Rattle.l3_polyphase.specs.Samples.{before_newest, column_in};
+ghost use Rattle.l3_tables.specs.Filterbank.{slot_sum};
+ghost use Rattle.l3_polyphase.specs.Fold.{folded_columns_sum, part_sum, AreSetOutside};
+ghost use Rattle.l3_polyphase.specs.Pairs.{AreTaps};
 
 use crate::coefficients::cosine;
 use crate::columns::columns;
-use crate::fold::fold64;
 use l3_tables::add_product;
 
 // Every `step`-th folded column from `start`, `count` of them, each times its cosine for subband
@@ -57,38 +56,58 @@ fn rounded(sum: i64) -> i32
     ((sum + (1 << 26)) >> 27) as i32
 }
 
-// The slots of the 32 subbands of 32 folded columns: subband 31 - i has the products of subband i,
-// the odd ones with the other sign.
+// Sets the slots of subbands `i` and 31 - i, those before and behind them being set already.
+//
+// They have the same products, the odd ones with the other sign.
+#[inline(always)]
+fn set_opposite(columns: &[i64; 32], even: &[i64; 16], i: usize, out: &mut [i32; 32])
+    requires subband { i < 16 }
+    requires small { (j : ℕ) → j < 32 → IsWithin (2 ^ 36) (entry columns.now j) }
+    requires value { (n : ℕ) → n < 16 → entry even.now n ≡ part_sum 0 2 16 (entry columns.now) n }
+    requires bound { (n : ℕ) → n < 16 → IsWithin (2 ^ 55) (entry even.now n) }
+    requires before { AreSetOutside (entry columns.now) i out.old }
+    ensures { AreSetOutside (entry columns.now) (i + 1) out.new }
+{
+    let odd = part(columns, i, 1, 2, 16);
+    out[i] = rounded(even[i] + odd);
+    out[31 - i] = rounded(even[i] - odd);
+}
+
+// The slots of the 32 subbands of 32 folded columns.
+//
+// Each pair of subbands has a line of its own: so the cosines stand in the instructions, and none of
+// them is loaded.
 fn slots_of_folded(columns: &[i64; 32], out: &mut [i32; 32])
     requires { (j : ℕ) → j < 32 → IsWithin (2 ^ 36) (entry columns.now j) }
     ensures long { length out.new ≡ 32 }
     ensures value { (i : ℕ) → i < 32 → entry out.new i ≡ floor_div (folded_columns_sum (entry columns.now) i +ℤ pos (2 ^ 26)) (2 ^ 27) }
 {
     let even = even_sums(columns);
-    for i in 0..16 {
-        let odd = part(columns, i, 1, 2, 16);
-        out[i] = rounded(even[i] + odd);
-        out[31 - i] = rounded(even[i] - odd);
-    }
+    set_opposite(columns, &even, 0, out);
+    set_opposite(columns, &even, 1, out);
+    set_opposite(columns, &even, 2, out);
+    set_opposite(columns, &even, 3, out);
+    set_opposite(columns, &even, 4, out);
+    set_opposite(columns, &even, 5, out);
+    set_opposite(columns, &even, 6, out);
+    set_opposite(columns, &even, 7, out);
+    set_opposite(columns, &even, 8, out);
+    set_opposite(columns, &even, 9, out);
+    set_opposite(columns, &even, 10, out);
+    set_opposite(columns, &even, 11, out);
+    set_opposite(columns, &even, 12, out);
+    set_opposite(columns, &even, 13, out);
+    set_opposite(columns, &even, 14, out);
+    set_opposite(columns, &even, 15, out);
 }
 
-// The slots of the 32 subbands of 64 columns, the last one first.
-fn slots_of_columns(sums: &[i64; 64], out: &mut [i32; 32])
-    requires small { (k : ℕ) → k < 64 → IsWithin (2 ^ 35) (column_in sums.now k) }
-    ensures long { length out.new ≡ 32 }
-    ensures value { (i : ℕ) → i < 32 → entry out.new i ≡ floor_div (subband_sum (column_in sums.now) i +ℤ pos (2 ^ 26)) (2 ^ 27) }
+// The slots of the 32 subbands of slot `k` of some rows.
+pub(crate) fn subbands(rows: &[[i16; 64]], k: usize, out: &mut [i32; 32])
+    requires { k + 14 < length rows.now }
+    ensures value { (newest : ℕ → ℤ) → AreTaps newest rows.now k → out.new ≡ tabulate 32 (slot_sum newest) }
+    ensures bound { (newest : ℕ → ℤ) → AreTaps newest rows.now k → All (IsWithin 44598016) out.new }
 {
     let mut folded = [0i64; 32];
-    fold64(sums, &mut folded);
+    columns(rows, k, &mut folded);
     slots_of_folded(&folded, out);
-}
-
-// The slots of the 32 subbands of 512 samples in order of time.
-pub(crate) fn subbands(samples: &[i16], out: &mut [i32; 32])
-    requires { length samples.now ≡ 512 }
-    ensures value { out.new ≡ tabulate 32 (slot_sum (before_newest samples.now)) }
-    ensures bound { All (IsWithin 44598016) out.new }
-{
-    let sums = columns(samples);
-    slots_of_columns(&sums, out);
 }
