@@ -16,6 +16,7 @@ use crate::track::{GranuleDone, Track};
 use crate::window::fill;
 use l3_analysis::Piece;
 use l3_base::{Channels, GranuleNo, Settings, Steps, Window};
+use l3_polyphase::Kept;
 use l3_stream::ChosenFrame;
 use l3_wav::Pcm;
 use std::marker::Model;
@@ -30,9 +31,11 @@ pub struct Committer {
     track: Track,
     pcm: Pcm,
     is_ready: bool,
-    // The granule that was gathered last, and where its window was written.
+    // The granule that was gathered last, where its window was written, and the windows before it.
     own: Piece,
     window: Window,
+    left: Kept,
+    right: Kept,
 }
 
 impl Model for Committer {
@@ -96,6 +99,8 @@ impl Committer {
             is_ready: false,
             own: Piece::blank(settings),
             window: no_window(),
+            left: Kept::zero(),
+            right: Kept::zero(),
         }
     }
 
@@ -129,7 +134,7 @@ impl Committer {
             fill(&mut self.window.right, &self.pcm.right, granule);
         }
         self.own.load(number, &self.window, 0);
-        self.own.transform();
+        self.own.transform_after(&mut self.left, &mut self.right);
         self.is_ready = true;
     }
 

@@ -87,12 +87,15 @@ fold_is z m line =
     halves ∙ (ap (λ x. x +ℤ sum_below 9 (λ j. folded_term (folded_slot z) m (9 + j))) low
     ∙ (ap (λ x. sum_below 9 (term z m) +ℤ sum_below 9 (λ j. term z m (17 - j)) +ℤ x) high ∙ sym (four_parts (term z m))))
 
+-- the sum of slots that are folded
+pub sum_of_fold : (f z : ℕ → ℤ) (m : ℕ) → m < 18 → ((k : ℕ) → k < 18 → f k ≡ folded_slot z k) → folded_slots_sum f m ≡ sum_below 36 (λ k. z k *ℤ line_cosine m k)
+unfolding folded_slots_sum
+sum_of_fold f z m line h = sum_below-same 18 _ _ (λ k lt. ap (λ x. x *ℤ folded_cosine m k) (h k lt)) ∙ fold_is z m line
+
 -- a line out of slots that are folded
 pub line_of_fold : (f z : ℕ → ℤ) (m : ℕ) → m < 18 → ((k : ℕ) → k < 18 → f k ≡ folded_slot z k) → floor_div (pos 2 *ℤ folded_slots_sum f m +ℤ pos 294912) 589824 ≡ line_from z m
-unfolding folded_slots_sum line_from
-line_of_fold f z m line h =
-    let same : sum_below 18 (folded_term f m) ≡ sum_below 36 (term z m) = sum_below-same 18 _ _ (λ k lt. ap (λ x. x *ℤ folded_cosine m k) (h k lt)) ∙ fold_is z m line in
-    ap (λ s. floor_div (pos 2 *ℤ s +ℤ pos 294912) 589824) same
+unfolding line_from
+line_of_fold f z m line h = ap (λ s. floor_div (pos 2 *ℤ s +ℤ pos 294912) 589824) (sum_of_fold f z m line h)
 
 pub folded_small : (z : ℕ → ℤ) (k bound : ℕ) → k < 18 → ((k : ℕ) → k < 36 → unsigned_abs (z k) ≤ bound) → unsigned_abs (folded_slot z k) ≤ 2 * bound
 folded_small z k bound lt small =

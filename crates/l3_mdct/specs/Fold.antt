@@ -1,6 +1,5 @@
 -- The 36 windowed slots of a subband folded to 18: slots as far from either end of their half have
 -- the same cosines, with the other sign in the first half.
--- Only the inside of this crate speaks of these.
 use Rattle.std.specs.Prelude.{ℕ, ◌+◌, ◌-◌, nat_lt, ℤ, ◌+ℤ◌, ◌-ℤ◌, ◌*ℤ◌, if◌then◌else◌}
 use Rattle.l3_tables.specs.Sums.{sum_below}
 use Rattle.l3_mdct.specs.Spectrum.{line_cosine}

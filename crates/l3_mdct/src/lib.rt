@@ -15,6 +15,7 @@ mod lines;
 mod rounding;
 mod transform;
 
+pub use fold::fold36;
 pub use laws::spectrum_laws;
 pub use transform::spectrum;
 

@@ -6,7 +6,7 @@ ghost use Rattle.l3_mdct.specs.Spectrum.{windowed, line_from, line_before};
 ghost use Rattle.l3_mdct.specs.Fold.{folded_slots_sum};
 
 use crate::cosines::{cosine, window};
-use crate::fold::fold36;
+use crate::fold::fold_slots;
 use crate::rounding::{ninth, product, rounded};
 use l3_base::{Slots36, Spectrum};
 use l3_tables::add_product;
@@ -80,7 +80,7 @@ fn transform_subband(slots: &Slots36, band: usize, out: &mut Spectrum)
     ensures before { (n : ℕ) → n < 18 * band → entry out.new n ≡ entry out.old n }
 {
     let z = windowed_slots(slots, band);
-    let f = fold36(&z);
+    let f = fold_slots(&z);
     let mut sums = [0i64; 18];
     line_sums(&f, &mut sums);
     set_lines(out, band, &sums);

@@ -1,4 +1,4 @@
-use crate::spectrum;
+use crate::{fold36, spectrum};
 use l3_base::{Slots36, Spectrum};
 
 #[test]
@@ -22,4 +22,16 @@ fn lines_of_two_subbands(rt: HostRuntime) {
     assert_eq!(rt; out.lines()[71], 156708);
     assert_eq!(rt; out.lines()[72], -226047);
     assert_eq!(rt; out.lines()[79], 198510);
+}
+
+// Slot k is the square of k + 1, folded by hand.
+#[test]
+fn slots_folded(rt: HostRuntime) {
+    let mut z = [0i64; 36];
+    for k in 0..36usize {
+        z[k] = ((k + 1) * (k + 1)) as i64;
+    }
+    let mut t = [0i64; 18];
+    fold36(&z, &mut t);
+    assert_eq!(rt; (t[0], t[8], t[9], t[17]), (-323, -19, 1657, 1513));
 }

@@ -5,3 +5,4 @@ pub mod FoldLaw
 pub mod HalvingLaw
 pub mod BothEnds
 pub mod ColumnSlots
+pub mod SharedSlots

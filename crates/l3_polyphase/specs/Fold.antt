@@ -1,7 +1,6 @@
 -- The folds of a subband's sum: of 64 columns to 32, since the cosines repeat about column 16, and
 -- with the other sign about column 48; and of two subbands to one, since those of subband n - 1 - i
 -- are those of subband i, with the other sign at every other column.
--- Only the inside of this crate speaks of these.
 use Rattle.std.specs.Prelude.{ℕ, ◌+◌, ◌-◌, ◌*◌, nat_le, nat_eq, if◌then◌else◌, ℤ, pos, ◌+ℤ◌, ◌-ℤ◌, ◌*ℤ◌}
 use Rattle.l3_tables.specs.Sums.{sum_below}
 use Rattle.l3_tables.specs.Cosines.{cosine64}

@@ -1,8 +1,8 @@
-ghost use Rattle.std.specs.Prelude.{◌≡◌, ◌≢◌, ◌<◌, ◌^◌, ℕ, All, pos, length};
+ghost use Rattle.std.specs.Prelude.{◌≡◌, ◌≢◌, ◌<◌, ◌≤◌, ◌^◌, ℕ, All, pos, length};
 ghost use Rattle.l3_base.specs.Slots.{slot_in};
 ghost use Rattle.l3_tables.specs.Lists.{entry, tabulate};
 ghost use Rattle.l3_tables.specs.Sums.{IsWithin};
-ghost use Rattle.l3_tables.specs.Filterbank.{slot_sum, slots_of, turned};
+ghost use Rattle.l3_tables.specs.Filterbank.{slot_sum, slots_of, turned, turned_slot};
 ghost use Rattle.l3_polyphase.specs.Samples.{HasShape, before_newest};
 
 use crate::subbands::subbands;
@@ -37,9 +37,21 @@ pub fn slots36(window: &[i16; 1632], out: &mut Slots36)
     ensures value { out.new ≡ slots_of window.now }
     ensures bound { All (All (IsWithin 44598016)) out.new }
 {
-    let mut slots = [0i32; 32];
     *out = Slots36::zero();
-    for k in 0..36 {
+    fill_from(window, 0, out);
+}
+
+// Fills in the slots of a window from slot `from` on, those before being there already.
+pub(crate) fn fill_from(window: &[i16; 1632], from: usize, out: &mut Slots36)
+    requires from { from ≤ 36 }
+    requires shape { HasShape out.old }
+    requires value { (i k : ℕ) → i < 32 → k < from → slot_in out.old i k ≡ turned_slot window.now i k }
+    requires small { (i k : ℕ) → i < 32 → k < from → IsWithin 44598016 (slot_in out.old i k) }
+    ensures value { out.new ≡ slots_of window.now }
+    ensures bound { All (All (IsWithin 44598016)) out.new }
+{
+    let mut slots = [0i32; 32];
+    for k in from..36 {
         subbands(&window[32 * k..32 * k + 512], &mut slots);
         set_slots(out, k, &slots);
     }

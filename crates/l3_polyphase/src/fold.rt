@@ -1,10 +1,28 @@
 ghost use Rattle.std.specs.Prelude.{◌≡◌, ◌<◌, ◌^◌, ℕ, unsigned_abs};
-ghost use Rattle.l3_tables.specs.Lists.{entry};
-ghost use Rattle.l3_polyphase.specs.Fold.{folded_column};
+ghost use Rattle.l3_tables.specs.Lists.{entry, tabulate};
+ghost use Rattle.l3_tables.specs.Filterbank.{subband_sum};
+ghost use Rattle.l3_polyphase.specs.Fold.{folded_column, folded_columns_sum};
 ghost use Rattle.l3_polyphase.specs.Samples.{column_in};
 
-// Folds 64 columns, the last one first, to 32, which halves the products of each subband.
-pub(crate) fn fold64(y: &[i64; 64], u: &mut [i64; 32])
+/// Folds the 64 columns of a slot to 32, which halves the products of each subband.
+///
+/// Shape: columns in order of their number, each below 2^50 in absolute value.
+pub fn fold64(y: &[i64; 64], u: &mut [i64; 32])
+    requires { (k : ℕ) → k < 64 → unsigned_abs (entry y.now k) < 2 ^ 50 }
+    ensures value { u.new ≡ tabulate 32 (folded_column (entry y.now)) }
+    ensures sum { (i : ℕ) → i < 32 → folded_columns_sum (entry u.new) i ≡ subband_sum (entry y.now) i }
+{
+    u[0] = y[16];
+    for j in 1..17 {
+        u[j] = y[16 + j] + y[16 - j];
+    }
+    for j in 17..32 {
+        u[j] = y[16 + j] - y[80 - j];
+    }
+}
+
+// The same of 64 columns of which the last one stands first.
+pub(crate) fn fold_columns(y: &[i64; 64], u: &mut [i64; 32])
     requires { (k : ℕ) → k < 64 → unsigned_abs (column_in y.now k) < 2 ^ 50 }
     ensures { (j : ℕ) → j < 32 → entry u.new j ≡ folded_column (column_in y.now) j }
 {

@@ -10,9 +10,13 @@ mod coefficients;
 mod columns;
 mod filterbank;
 mod fold;
+mod following;
+mod kept;
 mod subbands;
 
 pub use filterbank::{slot, slots36};
+pub use fold::fold64;
+pub use kept::Kept;
 
 #[cfg(test)]
 mod tests;

@@ -7,7 +7,7 @@ ghost use Rattle.l3_polyphase.specs.Samples.{before_newest, column_in};
 
 use crate::coefficients::cosine;
 use crate::columns::columns;
-use crate::fold::fold64;
+use crate::fold::fold_columns;
 use l3_tables::add_product;
 
 // Every `step`-th folded column from `start`, `count` of them, each times its cosine for subband
@@ -79,7 +79,7 @@ fn slots_of_columns(sums: &[i64; 64], out: &mut [i32; 32])
     ensures value { (i : ℕ) → i < 32 → entry out.new i ≡ floor_div (subband_sum (column_in sums.now) i +ℤ pos (2 ^ 26)) (2 ^ 27) }
 {
     let mut folded = [0i64; 32];
-    fold64(sums, &mut folded);
+    fold_columns(sums, &mut folded);
     slots_of_folded(&folded, out);
 }
 

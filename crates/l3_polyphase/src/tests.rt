@@ -1,4 +1,4 @@
-use crate::{slot, slots36};
+use crate::{Kept, fold64, slot, slots36};
 use l3_base::Slots36;
 
 // Samples 16384, 0, 0 and so on: the first one is 31 before the newest of slot 0, and 287 before
@@ -25,4 +25,38 @@ fn slots_of_an_impulse(rt: HostRuntime) {
         (slots.get(0, 0), slots.get(1, 0), slots.get(0, 8)),
         (-77, 62, 116582)
     );
+}
+
+// The windows of two neighbouring granules of a ramp: the slots of the second one, half of them
+// kept, are those made from nothing.
+#[test]
+fn neighbouring_granules_of_a_ramp(rt: HostRuntime) {
+    let mut first = [0i16; 1632];
+    let mut second = [0i16; 1632];
+    for n in 0..1632 {
+        first[n] = n as i16;
+        second[n] = n as i16 + 576;
+    }
+    let mut kept = Kept::zero();
+    kept.go_on(&first);
+    kept.go_on(&second);
+    let mut anew = Slots36::zero();
+    slots36(&second, &mut anew);
+    for i in 0..32 {
+        for k in 0..36 {
+            assert_eq!(rt; kept.slots().get(i, k), anew.get(i, k));
+        }
+    }
+}
+
+// Column k is k (k + 1), folded by hand.
+#[test]
+fn columns_folded(rt: HostRuntime) {
+    let mut y = [0i64; 64];
+    for k in 0..64usize {
+        y[k] = (k * (k + 1)) as i64;
+    }
+    let mut u = [0i64; 32];
+    fold64(&y, &mut u);
+    assert_eq!(rt; (u[0], u[1], u[16], u[17], u[31]), (272, 546, 1056, -2910, -194));
 }

@@ -5,13 +5,13 @@ use Rattle.l3_mdct.proofs.fold.fold36.Given as goal
 
 abbrev pub invariant-loop-k : goal.invariant-loop-k
 invariant-loop-k l = record {
-  long : length l.f ≡ 18;
-  value : (n : ℕ) → n < l.k → entry l.f n ≡ folded_slot (entry l.z) n;
+  long : length l.t ≡ 18;
+  value : (n : ℕ) → n < l.k → entry l.t n ≡ folded_slot (entry l.z) n;
 }
 
 abbrev pub invariant-loop-k-2 : goal.invariant-loop-k-2
 invariant-loop-k-2 l = record {
   from : 9 ≤ l.k;
-  long : length l.f ≡ 18;
-  value : (n : ℕ) → n < l.k → entry l.f n ≡ folded_slot (entry l.z) n;
+  long : length l.t ≡ 18;
+  value : (n : ℕ) → n < l.k → entry l.t n ≡ folded_slot (entry l.z) n;
 }
