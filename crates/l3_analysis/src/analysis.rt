@@ -1,7 +1,7 @@
 ghost use Rattle.std.specs.Prelude.{◌≡◌, ◌≤◌, ◌<◌, ◌+◌, ◌^◌, All, Some, replicate, pos};
 ghost use Rattle.l3_base.specs.Amp.{no_amp};
 ghost use Rattle.l3_base.specs.Rates.{hertz_index_of};
-ghost use Rattle.l3_tables.specs.Sums.{IsWithin};
+ghost use Rattle.l3_mdct.specs.Sums.{IsWithin};
 ghost use Rattle.l3_mdct.specs.Spectrum.{lines_of, spectrum_of};
 ghost use Rattle.l3_energy.specs.Demand.{demand_of};
 ghost use Rattle.l3_count.specs.Bands.{band_edges};

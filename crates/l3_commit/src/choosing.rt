@@ -59,9 +59,10 @@ fn choose<L: Ledger + Send>(
     let _lines = spec.lines();
     let first = first_gain(spec);
     write_unit(spec, &picked.count, unit);
+    let tried = (u32::from(picked.count.gain()) + 1).saturating_sub(u32::from(first));
     GranuleDone {
         made: u32::from(picked.made),
-        tried: (u32::from(picked.count.gain()) + 1).saturating_sub(u32::from(first)),
+        tried,
     }
 }
 

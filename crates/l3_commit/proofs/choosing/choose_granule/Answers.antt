@@ -1,7 +1,6 @@
-use Rattle.std.proofs.Common.{◌∙◌, sym, ap, subst, ℕ, ◌+◌, arith}
-use Rattle.std.specs.Prelude.{List, ℤ}
+use Rattle.std.proofs.Common.{◌∙◌, sym}
 use Rattle.l3_analysis.specs.Piece.{spectrum_in, memo_in}
-use Rattle.l3_commit.proofs.Taking.{IsTaken, granule-mono, granule-stereo}
+use Rattle.l3_commit.proofs.Taking.{granule-mono, granule-stereo}
 use Rattle.l3_commit.proofs.OfPiece.{committed-mono, committed-stereo, lacking-mono, lacking-stereo, second-taken}
 use Rattle.l3_commit.proofs.choosing.choose_granule.Goals as goal
 
