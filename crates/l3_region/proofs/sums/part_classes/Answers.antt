@@ -1,13 +1,13 @@
 use Rattle.std.proofs.Common.{◌≡◌, ◌≢◌, ℕ, List, ◌<◌, ◌≤◌, ◌+◌, ◌-◌, ◌/◌, ◌∙◌, get_or, get_or-set_other, get_or-set_same, length, inl, inr, arith, ap, sym, subst, min, leb}
-use Rattle.std.specs.Prelude.{ℤ, slice_range}
+use Rattle.std.specs.Prelude.{slice_range}
 use Rattle.std.proofs.lemmas.Bool.{cases_eq, cases_lt}
 use Rattle.std.proofs.lemmas.List.{get_or_past}
 use Rattle.std.proofs.Math.ListN.{set, length-set}
-use Rattle.l3_tables.specs.Bands.{edge_at, edges_at}
+use Rattle.l3_tables.specs.Bands.{edge_at}
 use Rattle.l3_tables.proofs.Edges.{edge_order}
 use Rattle.std.specs.List.{list_all}
 use Rattle.l3_region.specs.Split.{end_of_pairs}
-use Rattle.l3_region.specs.Pairs.{ArePairsOf, IsBandClass, lines_in}
+use Rattle.l3_region.specs.Pairs.{IsBandClass, lines_in}
 use Rattle.l3_region.proofs.CutClasses.{part_tells, whole_tells}
 use Rattle.l3_region.proofs.sums.part_classes.Goals as goal
 

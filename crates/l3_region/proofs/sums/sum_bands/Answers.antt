@@ -1,8 +1,5 @@
-use Rattle.std.proofs.Common.{◌≡◌, ◌≢◌, ℕ, List, ◌<◌, ◌+◌, ◌/◌, ◌%◌, ◌∙◌, get_or, get_or-set_other, get_or-set_same, length, replicate, inl, inr, arith, ap, sym, min}
-use Rattle.std.proofs.lemmas.Bool.{cases_eq, cases_lt}
-use Rattle.std.proofs.lemmas.List.{get_or_past}
-use Rattle.std.proofs.Math.ListN.{set, length-set}
-use Rattle.l3_tables.proofs.ListLemmas.{filled_more}
+use Rattle.std.proofs.Common.{◌≡◌, ℕ, List, ◌+◌, ◌/◌, ◌%◌, ◌∙◌, get_or, length, inl, inr, arith, ap, sym, min}
+use Rattle.std.proofs.lemmas.Bool.{cases_lt}
 use Rattle.std.proofs.lemmas.Simd.{get_or-replicate}
 use Rattle.l3_tables.specs.Bands.{edge_at}
 use Rattle.std.specs.Prelude.{ℤ}
