@@ -71,8 +71,8 @@ fn granules(samples: usize) -> u64
     }
 }
 
-// Makes the spectrum of a granule of samples, `slots` having the slots of any granule of them: those
-// that the two share are not made anew.
+// Makes the spectrum of a granule of samples, `slots` having those of whatever granule came before:
+// slots that the two share are not made anew.
 fn transform(
     samples: &[i16],
     granule: u64,

@@ -95,8 +95,8 @@ fn set_opposite(columns: &[i64; 32], even: &[i64; 16], i: usize, out: &mut [i32;
 
 // The slots of the 32 subbands of 32 folded columns.
 //
-// Each pair of subbands has a line of its own: so the cosines stand in the instructions, and none of
-// them is loaded.
+// Each pair of subbands has a line of its own: so the cosines stand in the instructions, and none
+// of them is loaded.
 #[inline(never)]
 fn slots_of_folded(columns: &[i64; 32], out: &mut [i32; 32])
     requires { (j : ℕ) → j < 32 → IsWithin (2 ^ 36) (entry columns.now j) }
