@@ -1,7 +1,8 @@
-ghost use Rattle.std.specs.Prelude.{◌≡◌, ◌≤◌, ◌<◌, ◌+◌, ◌^◌, Some, replicate, pos};
+ghost use Rattle.std.specs.Prelude.{◌≡◌, ◌≤◌, ◌<◌, ◌+◌, ◌^◌, All, Some, replicate, pos};
 ghost use Rattle.l3_base.specs.Amp.{no_amp};
 ghost use Rattle.l3_base.specs.Rates.{hertz_index_of};
-ghost use Rattle.l3_mdct.specs.Spectrum.{spectrum_of};
+ghost use Rattle.l3_mdct.specs.Sums.{IsWithin};
+ghost use Rattle.l3_mdct.specs.Spectrum.{lines_of, spectrum_of};
 ghost use Rattle.l3_energy.specs.Demand.{demand_of};
 ghost use Rattle.l3_count.specs.Bands.{band_edges};
 ghost use Rattle.l3_count.specs.Gains.{first_gain_of};
@@ -13,7 +14,7 @@ use l3_base::{Amp, SampleRate, Settings, Slots36, Spectrum, Steps};
 use l3_count::Memo;
 use l3_energy::demand;
 use l3_mdct::spectrum;
-use l3_polyphase::slots36;
+use l3_polyphase::{Kept, slots36};
 use l3_reservoir::Reserve;
 use l3_search::{Picked, pick};
 use std::sync::ledger::Ledger;
@@ -46,7 +47,33 @@ impl Analysis {
     {
         let mut slots = Slots36::zero();
         slots36(samples, &mut slots);
-        spectrum(&slots, &mut self.spectrum);
+        self.take(&slots, rate);
+    }
+
+    // The same, but for the slots that the samples share with the window that is kept.
+    pub(crate) fn transform_after(
+        &mut self,
+        samples: &[i16; 1632],
+        kept: &mut Kept,
+        rate: SampleRate,
+    )
+        ensures spectrum { self.new.spectrum ≡ spectrum_of samples.now }
+        ensures demand { self.new.demand ≡ demand_of (hertz_index_of rate) (spectrum_of samples.now) }
+        ensures memo { self.new.memo ≡ self.old.memo }
+        ensures kept { kept.new ≡ samples.now }
+    {
+        kept.go_on(samples);
+        self.take(kept.slots(), rate);
+    }
+
+    // Makes spectrum and demand of a window's slots.
+    fn take(&mut self, slots: &Slots36, rate: SampleRate)
+        requires { All (All (IsWithin 44598016)) slots.now }
+        ensures spectrum { self.new.spectrum ≡ lines_of slots.now }
+        ensures demand { self.new.demand ≡ demand_of (hertz_index_of rate) (lines_of slots.now) }
+        ensures memo { self.new.memo ≡ self.old.memo }
+    {
+        spectrum(slots, &mut self.spectrum);
         self.demand = demand(&self.spectrum, rate);
     }
 

@@ -5,6 +5,7 @@ use crate::analysis::Analysis;
 use crate::stage::Stage;
 use l3_base::{Channels, GranuleNo, Settings, Spectrum, Steps, Window};
 use l3_count::Memo;
+use l3_polyphase::Kept;
 use l3_reservoir::Reserve;
 use l3_search::Picked;
 use std::marker::Model;
@@ -62,6 +63,7 @@ fn zeros() -> Window
 
 impl Piece {
     ghost use Rattle.l3_base.specs.Amp.{no_amp};
+    ghost use Rattle.l3_base.specs.declared.rate.Channels.TheVariants.{Mono, Stereo};
     ghost use Rattle.l3_analysis.specs.declared.stage.Stage.TheVariants.{Loaded, Transformed, Presumed};
     ghost use Rattle.l3_count.specs.Gains.{first_gain_of};
     ghost use Rattle.l3_search.specs.Gain.{HasLaneTo, lacking, picked, picked_gain};
@@ -107,6 +109,26 @@ impl Piece {
         match self.settings.channels {
             Channels::Mono => {}
             Channels::Stereo => self.right.transform(&self.window.right, rate),
+        }
+    }
+
+    /// The same, and what is kept of each channel's last window, of whatever granule, goes on to
+    /// this one: slots that the two share are not made anew. In mono nothing becomes of `right`.
+    pub fn transform_after(&mut self, left: &mut Kept, right: &mut Kept)
+        requires { self.old.stage ≡ Loaded }
+        ensures piece { self.new ≡ record self.old { stage = Transformed } }
+        ensures left { left.new ≡ self.old.window.left }
+        ensures right { self.old.settings.channels ≡ Stereo → right.new ≡ self.old.window.right }
+        ensures absent { self.old.settings.channels ≡ Mono → right.new ≡ right.old }
+    {
+        let rate = self.settings.sample_rate;
+        self.stage = Stage::Transformed;
+        self.left.transform_after(&self.window.left, left, rate);
+        match self.settings.channels {
+            Channels::Mono => {}
+            Channels::Stereo => self
+                .right
+                .transform_after(&self.window.right, right, rate),
         }
     }
 

@@ -2,6 +2,7 @@ pub mod CodedLines
 pub mod CodedUnits
 pub mod CodedPicks
 pub mod Taking
+pub mod OfPiece
 pub mod Keeping
 pub mod Tracking
 pub mod Standings

@@ -1,9 +1,10 @@
 -- A committer goes through the choice of frames.
 use Rattle.std.proofs.Common.{◌≡◌, ◌∙◌, sym, ap, subst, refl, ℕ, suc, ◌+◌, ◌*◌, ◌<◌, ◌≤◌, List, [], ◌∷◌, ◌++◌, length, arith, length-append}
-use Rattle.std.specs.Prelude.{ℤ, true, false}
+use Rattle.std.specs.Prelude.{ℤ, Bool, true, false}
 use Rattle.l3_base.specs.declared.settings.Settings.{Settings}
 use Rattle.l3_base.specs.declared.rate.Channels.{Channels}
 use Rattle.l3_base.specs.declared.rate.Channels.TheVariants.{Mono, Stereo}
+use Rattle.l3_base.specs.declared.slots.Window.{Window}
 use Rattle.l3_base.specs.Lengths.{mmax_of, granules_for}
 use Rattle.l3_mdct.specs.Spectrum.{spectrum_of_granule}
 use Rattle.l3_reservoir.specs.Budget.{begin_after}
@@ -13,7 +14,8 @@ use Rattle.l3_commit.specs.Choice.{Spectra, granule_by, reserve_by, granule_chos
 use Rattle.l3_commit.specs.Tried.{granule_tried_by, granule_tried, tried_at}
 use Rattle.l3_commit.specs.Encoding.{of_channel, spectra_of}
 use Rattle.l3_commit.specs.Tracks.{TrackView, first_track, next_of, with_granule, with_frame_ended}
-use Rattle.l3_commit.specs.Standing.{CommitterView, HasCommitted, IsProgress, AreSameSpectra, StandsFor, StillStands, total_of, spectra_at_hand, right_lines_of, gathered, granule_committed, frame_committed}
+use Rattle.l3_analysis.specs.Piece.{PieceView, spectrum_in}
+use Rattle.l3_commit.specs.Standing.{CommitterView, HasCommitted, HasOwn, IsProgress, AreSameSpectra, StandsFor, StillStands, total_of, spectra_at_hand, right_lines_of, gathered, granule_committed, frame_committed}
 
 -- ---- the spectra of channels that are not there do not count
 
@@ -40,6 +42,14 @@ granule_tried_by-same Stereo st n reserve lines others same = rw (same.0, same.1
 pub tried-same : (st : Settings) (n reserve : ℕ) (lines others : ℕ → List ℤ) → AreSameSpectra st.channels lines others → granule_tried st n reserve lines ≡ granule_tried st n reserve others
 unfolding granule_tried
 tried-same st n reserve lines others same = granule_tried_by-same st.channels st n reserve lines others same
+
+-- a function of the channel, and the one that takes its values at the two channels
+pub at-channels : (ch : Channels) (lines : ℕ → List ℤ) → AreSameSpectra ch lines (of_channel (lines 0) (lines 1))
+at-channels Mono lines = refl
+at-channels Stereo lines = (refl, refl)
+
+pub with_granule-same : (t : TrackView) (lines others : ℕ → List ℤ) → AreSameSpectra t.settings.channels lines others → with_granule t lines ≡ with_granule t others
+with_granule-same t lines others same = rw (granule-same t.settings t.frame t.reserve lines others same, after-same t.settings t.frame t.reserve lines others same) refl
 
 -- ---- one more granule of a frame
 
@@ -197,9 +207,24 @@ stands-opened st left right c l r not_ready start = record {
   ready = λ ready. absurd (cc);
 }
 
-pub granule-view : (c now : CommitterView) (t : TrackView) → c ≡ now → t ≡ with_granule c.track (spectra_at_hand c)
-    → (let made : CommitterView = record c { is_ready = false; track = t } in made ≡ granule_committed now)
-granule-view c now t is e = rw e (ap granule_committed is)
+pub granule-view : (c now : CommitterView) (t : TrackView) (p q : PieceView) → c ≡ now → c.left_lines ≡ spectrum_in p 0 → c.right_lines ≡ spectrum_in p 1
+    → t ≡ with_granule c.track (spectrum_in p) → q ≡ record p { memos = q.memos }
+    → (let made : CommitterView = record c { is_ready = false; track = t; left_lines = spectrum_in q 0; right_lines = spectrum_in q 1 } in made ≡ granule_committed now)
+granule-view c now t p q is left right e same =
+    let track : t ≡ with_granule c.track (spectra_at_hand c) =
+    e ∙ (with_granule-same c.track (spectrum_in p) (of_channel (spectrum_in p 0) (spectrum_in p 1)) (at-channels c.track.settings.channels (spectrum_in p))
+    ∙ (ap (λ l. with_granule c.track (of_channel l (spectrum_in p 1))) (sym left) ∙ ap (λ r. with_granule c.track (of_channel c.left_lines r)) (sym right))) in
+    let left_is : spectrum_in q 0 ≡ c.left_lines = ap (λ (v : PieceView). spectrum_in v 0) same ∙ sym left in
+    let right_is : spectrum_in q 1 ≡ c.right_lines = ap (λ (v : PieceView). spectrum_in v 1) same ∙ sym right in
+    rw (track, left_is, right_is) (ap granule_committed is)
+
+-- what it keeps of its piece
+pub own-committed : (t u : TrackView) (w : Window) (p q : PieceView) (ready : Bool) → HasOwn t w p ready → u.settings ≡ t.settings → q ≡ record p { memos = q.memos } → HasOwn u w q false
+own-committed t u w p q ready own settings same = record {
+  settings_are = ap (λ (v : PieceView). v.settings) same ∙ (own.settings_are ∙ sym settings);
+  right_is = own.right_is ∙ sym (ap (λ (v : PieceView). v.window.right) same);
+  at_hand = λ bad. absurd (cc);
+}
 
 pub frame-view : (c now : CommitterView) (t : TrackView) → c ≡ now → t ≡ with_frame_ended c.track
     → (let made : CommitterView = record c { track = t } in made ≡ frame_committed now)
@@ -233,6 +258,10 @@ tried-progress st spectra t lines few same p =
     ap (λ (s : Settings). granule_tried s t.frame t.reserve lines) p.settings
     ∙ (tried-same st t.frame t.reserve lines (spectra (next_of t)) same ∙ tried-committed st spectra t.frame t.reserve t.granules few p.units)
 
-pub stands-tried : (c : CommitterView) (st : Settings) (left right : List ℤ) → c.is_ready ≡ true → length c.track.granules < 2 → StandsFor c st left right
-    → granule_tried c.track.settings c.track.frame c.track.reserve (spectra_at_hand c) ≡ tried_at st (spectra_of left right) c.track.frame (length c.track.granules)
-stands-tried c st left right ready few s = tried-progress st (spectra_of left right) c.track (spectra_at_hand c) few (s.ready ready) s.progress
+pub stands-tried : (c : CommitterView) (p : PieceView) (st : Settings) (left right : List ℤ) → c.left_lines ≡ spectrum_in p 0 → c.right_lines ≡ spectrum_in p 1 → c.is_ready ≡ true → length c.track.granules < 2
+    → StandsFor c st left right → granule_tried c.track.settings c.track.frame c.track.reserve (spectrum_in p) ≡ tried_at st (spectra_of left right) c.track.frame (length c.track.granules)
+stands-tried c p st left right l r ready few s =
+    tried-same c.track.settings c.track.frame c.track.reserve (spectrum_in p) (of_channel (spectrum_in p 0) (spectrum_in p 1)) (at-channels c.track.settings.channels (spectrum_in p))
+    ∙ (ap (λ x. granule_tried c.track.settings c.track.frame c.track.reserve (of_channel x (spectrum_in p 1))) (sym l)
+    ∙ (ap (λ x. granule_tried c.track.settings c.track.frame c.track.reserve (of_channel c.left_lines x)) (sym r)
+    ∙ tried-progress st (spectra_of left right) c.track (spectra_at_hand c) few (s.ready ready) s.progress))

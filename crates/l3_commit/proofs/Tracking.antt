@@ -1,5 +1,5 @@
 -- What a track keeps.
-use Rattle.std.proofs.Common.{◌≡◌, ◌∙◌, sym, ap, subst, refl, ℕ, zero, suc, ◌+◌, ◌*◌, ◌<◌, ◌≤◌, List, [], ◌∷◌, ◌++◌, length, take, slice_set, arith, length-append, lit≤, add-one}
+use Rattle.std.proofs.Common.{◌≡◌, ◌∙◌, sym, ap, subst, refl, ℕ, zero, suc, ◌+◌, ◌*◌, ◌^◌, ◌<◌, ◌≤◌, List, [], ◌∷◌, ◌++◌, length, take, slice_set, arith, length-append, lit≤, add-one}
 use Rattle.std.specs.Prelude.{ℤ, Bool, true, false, if◌then◌else◌}
 use Rattle.std.proofs.lemmas.List.Elements.{All-cons, All-nil, All-append}
 use Rattle.std.proofs.lemmas.List.{take_all, length-take}
@@ -11,8 +11,8 @@ use Rattle.l3_base.specs.declared.rate.Rate.TheVariants.{K32, K40, K48, K56, K64
 use Rattle.l3_base.specs.declared.rate.Channels.{Channels}
 use Rattle.l3_base.specs.declared.rate.Channels.TheVariants.{Mono, Stereo}
 use Rattle.l3_base.specs.Rates.{channels_of, kbits_of, hertz_of}
-use Rattle.l3_base.specs.Lengths.{mean_bits_of, mmax_of, slot_bytes_of, is_padded}
-use Rattle.l3_reservoir.specs.Budget.{begin_after}
+use Rattle.l3_base.specs.Lengths.{mean_bits_of, mmax_of, slot_bytes_of, slots_before, is_padded}
+use Rattle.l3_reservoir.specs.Budget.{begin_after, left_by}
 use Rattle.l3_stream.specs.declared.unit.Unit.{Unit}
 use Rattle.l3_stream.specs.declared.unit.ChosenFrame.{ChosenFrame}
 use Rattle.l3_stream.specs.Units.{lengths}
@@ -52,6 +52,10 @@ mean-small st n =
     let share = div-le_self (8 * slot_bytes_of st n) (2 * channels_of st.channels) in
     omega arith
 
+-- a unit leaves little more of the reserve than there was
+pub left-small : (reserve mean used after : ℕ) → mean ≤ 500000000 → after ≡ left_by reserve mean used → after < reserve + 2 ^ 32
+left-small reserve mean used after small is = omega (arith, is)
+
 -- one more granule
 kept-more : (ch : Channels) (mean begin r next : ℕ) (gs : List (List Unit)) (g : List Unit) → length gs < 2
     → granules_length gs + r ≡ 8 * begin + mean * (channels_of ch * length gs)
@@ -73,6 +77,7 @@ IsTrack-more t lines spectra is few number =
       few = omega (arith, long);
       number = omega (arith, long);
       begin = is.begin;
+      reached = is.reached;
       each = All-append P t.granules (g ∷ []) is.each (All-cons P g [] (granule-coded t.settings t.frame t.reserve lines spectra) (All-nil P));
       kept =
           kept-more t.settings.channels (mean_bits_of t.settings t.frame) t.begin t.reserve (after_granule t.settings t.frame t.reserve lines) t.granules g few is.kept
@@ -109,11 +114,29 @@ begin_after-near reserve limit = omega arith
 begin_after-small : (reserve limit : ℕ) → 8 * begin_after reserve limit ≤ reserve
 begin_after-small reserve limit = omega arith
 
-pub IsTrack-ended : (t : TrackView) → t.frame ≤ 4294967296 → IsTrack (with_frame_ended t)
-IsTrack-ended t number = record {
+-- the whole bytes that a frame leaves are of the slots up to its own
+begin_after-reached : (bits reserve limit begin before slot : ℕ) → bits + reserve ≡ 8 * begin + 8 * slot → begin ≤ before → begin_after reserve limit ≤ before + slot
+begin_after-reached bits reserve limit begin before slot kept reached = omega arith
+
+slots-next : (st : Settings) (n : ℕ) → slots_before st (n + 1) ≡ slots_before st n + slot_bytes_of st n
+unfolding slots_before
+slots-next st n = ap (slots_before st) (add-one n)
+
+-- the code bits of a track's whole frame and what is left of the reserve
+kept-whole : (t : TrackView) → IsTrack t → length t.granules ≡ 2 → granules_length t.granules + t.reserve ≡ 8 * t.begin + 8 * slot_bytes_of t.settings t.frame
+kept-whole t is two =
+    let share : mean_bits_of t.settings t.frame * (channels_of t.settings.channels * length t.granules) ≡ 8 * slot_bytes_of t.settings t.frame =
+    ap (λ k. mean_bits_of t.settings t.frame * (channels_of t.settings.channels * k)) two ∙ shares-slot t.settings t.frame in
+    is.kept ∙ ap (λ k. 8 * t.begin + k) share
+
+pub IsTrack-ended : (t : TrackView) → IsTrack t → length t.granules ≡ 2 → t.frame ≤ 4294967296 → IsTrack (with_frame_ended t)
+IsTrack-ended t is two number = record {
   few = lit≤ tt;
   number = omega arith;
   begin = begin_after-near t.reserve (mmax_of t.settings);
+  reached =
+      subst (λ (k : ℕ). begin_after t.reserve (mmax_of t.settings) ≤ k) (sym (slots-next t.settings t.frame))
+      (begin_after-reached (granules_length t.granules) t.reserve (mmax_of t.settings) t.begin (slots_before t.settings t.frame) (slot_bytes_of t.settings t.frame) (kept-whole t is two) is.reached);
   each = All-nil (IsCodedGranule t.settings t.settings.channels);
   kept = ended-kept t.settings.channels (mean_bits_of t.settings (t.frame + 1)) (8 * begin_after t.reserve (mmax_of t.settings));
 }
@@ -125,9 +148,7 @@ follows-ended t is two fs before =
     let f : ChosenFrame = record { begin = t.begin; units = t.granules } in
     let whole = all-granules t.settings t.settings.channels t.granules two is.each in
     let next = begin_after t.reserve (mmax_of t.settings) in
-    let share : mean_bits_of t.settings t.frame * (channels_of t.settings.channels * length t.granules) ≡ 8 * slot_bytes_of t.settings t.frame =
-    ap (λ k. mean_bits_of t.settings t.frame * (channels_of t.settings.channels * k)) two ∙ shares-slot t.settings t.frame in
-    let kept : granules_length t.granules + t.reserve ≡ 8 * t.begin + 8 * slot_bytes_of t.settings t.frame = is.kept ∙ ap (λ k. 8 * t.begin + k) share in
+    let kept = kept-whole t is two in
     let bits : length (code_bits t.settings f) + t.reserve ≡ 8 * t.begin + 8 * slot_bytes_of t.settings t.frame = ap (λ k. k + t.reserve) (whole-bits t.settings t.begin t.granules whole) ∙ kept in
     let more = CanFollow-more t.settings t.frame t.begin t.reserve next f fs refl (begin-near t is) (whole-coded t.settings t.begin t.granules whole) bits (begin_after-small t.reserve (mmax_of t.settings)) before in
     subst (λ (n : ℕ). CanFollow t.settings n next (fs ++ (f ∷ []))) (sym (add-one t.frame)) more
@@ -159,3 +180,11 @@ pub kept-granule : (t : TrackView) (lines : ℕ → List ℤ) (reserve : ℕ) (g
     → t.frame ≤ 4294967296 → reserve ≡ after_granule t.settings t.frame t.reserve lines → granules ≡ t.granules ++ (granule_chosen t.settings t.frame t.reserve lines ∷ [])
     → (let made : TrackView = record { settings = t.settings; frame = t.frame; begin = t.begin; reserve = reserve; granules = granules } in IsTrack made)
 kept-granule t lines reserve granules spectra is few number r g = rw (r, g) (IsTrack-more t lines spectra is few number)
+
+-- so does one whose frame ended
+pub kept-ended : (t : TrackView) (begin reserve : ℕ) → IsTrack t → length t.granules ≡ 2 → begin ≡ begin_after t.reserve (mmax_of t.settings) → reserve ≡ 8 * begin
+    → (let made : TrackView = record { settings = t.settings; frame = t.frame + 1; begin = begin; reserve = reserve; granules = [] } in IsTrack made)
+kept-ended t begin reserve is two b r =
+    let number = is.number in
+    let r' : reserve ≡ 8 * begin_after t.reserve (mmax_of t.settings) = r ∙ ap (λ k. 8 * k) b in
+    rw (r', b) (IsTrack-ended t is two (omega (arith, two, number)))

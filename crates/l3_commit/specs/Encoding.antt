@@ -1,5 +1,5 @@
 -- The encoding of samples: the stream that their chosen frames spell.
-use Rattle.std.specs.Prelude.{ℕ, zero, suc, ◌+◌, ◌==◌, List, length, ℤ, if◌then◌else◌}
+use Rattle.std.specs.Prelude.{ℕ, zero, suc, List, length, ℤ}
 use Rattle.l3_base.specs.declared.settings.Settings.{Settings}
 use Rattle.l3_base.specs.Lengths.{frames_for}
 use Rattle.l3_mdct.specs.Spectrum.{spectrum_of_granule}

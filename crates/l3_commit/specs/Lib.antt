@@ -3,6 +3,7 @@ pub use Rattle.l3_search.specs.Spectrum
 pub mod Units
 pub mod Choice
 pub mod Tried
+pub mod Lacking
 pub mod Encoding
 pub mod Laws
 pub mod Tracks

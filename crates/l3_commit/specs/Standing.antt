@@ -1,13 +1,16 @@
 -- A committer stands for settings and samples.
-use Rattle.std.specs.Prelude.{◌≡◌, ℕ, ◌*◌, ◌≤◌, Bool, true, false, List, [], ◌∷◌, length, ℤ}
+use Rattle.std.specs.Prelude.{◌≡◌, ℕ, ◌≤◌, Bool, true, false, List, [], ◌∷◌, length, ℤ}
 use Rattle.l3_base.specs.declared.settings.Settings.{Settings}
 use Rattle.l3_base.specs.declared.rate.Channels.{Channels}
 use Rattle.l3_base.specs.declared.rate.Channels.TheVariants.{Mono, Stereo}
+use Rattle.l3_base.specs.declared.slots.Window.{Window}
 use Rattle.l3_base.specs.Lengths.{granules_for}
 use Rattle.l3_mdct.specs.Spectrum.{spectrum_of_granule}
 use Rattle.l3_stream.specs.declared.unit.Unit.{Unit}
 use Rattle.l3_commit.specs.Choice.{Spectra, reserve_at_start, reserve_between, reserve_at_end, first_granule, second_granule, begin_before}
 use Rattle.l3_commit.specs.Encoding.{of_channel, spectra_of}
+use Rattle.l3_analysis.specs.declared.stage.Stage.TheVariants.{Transformed}
+use Rattle.l3_analysis.specs.Piece.{PieceView, no_memos}
 use Rattle.l3_commit.specs.Tracks.{TrackView, next_of, with_granule, with_frame_ended}
 
 -- a committer as contracts see it
@@ -19,6 +22,21 @@ pub record CommitterView : Type 0 where
   pub is_ready : Bool
   pub left_lines : List ℤ
   pub right_lines : List ℤ
+
+-- a piece is that of the granule that comes next, transformed and with no counts
+-- (only the inside of this crate)
+pub record IsAtHand (t : TrackView) (p : PieceView) : Type 0 where
+  pub number_is : p.number ≡ next_of t
+  pub stage_is : p.stage ≡ Transformed
+  pub memos_are : p.memos ≡ no_memos
+
+-- a committer's piece is made under its track's settings, and where it is ready it is the next
+-- granule's; the window that the next piece is made of keeps the right channel's samples in mono
+-- (only the inside of this crate)
+pub record HasOwn (t : TrackView) (window : Window) (own : PieceView) (is_ready : Bool) : Type 0 where
+  pub settings_are : own.settings ≡ t.settings
+  pub right_is : window.right ≡ own.window.right
+  pub at_hand : is_ready ≡ true → IsAtHand t own
 
 -- so many samples of the right channel go with so many of the left one
 abbrev pub IsRightOf : Channels → (left right : List ℤ) → Type 0

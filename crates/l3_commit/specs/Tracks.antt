@@ -2,7 +2,7 @@
 use Rattle.std.specs.Prelude.{◌≡◌, ℕ, ◌+◌, ◌*◌, ◌≤◌, min, List, [], ◌∷◌, ◌++◌, ℤ, length, All}
 use Rattle.std.specs.List.{sum_by}
 use Rattle.l3_base.specs.declared.settings.Settings.{Settings}
-use Rattle.l3_base.specs.Lengths.{mean_bits_of, mmax_of}
+use Rattle.l3_base.specs.Lengths.{mean_bits_of, mmax_of, slots_before}
 use Rattle.l3_base.specs.Rates.{channels_of}
 use Rattle.l3_reservoir.specs.Budget.{begin_after}
 use Rattle.l3_stream.specs.declared.unit.Unit.{Unit}
@@ -28,11 +28,13 @@ first_track st = record { settings = st; frame = 0; begin = 0; reserve = 0; gran
 abbrev pub granules_length : List (List Unit) → ℕ
 granules_length = sum_by lengths
 
--- what a track keeps: its granules are coded, and their code bits are what the reserve lost
+-- what a track keeps: its frame's main data begins within the slots before it, its granules are
+-- coded, and their code bits are what the reserve lost
 pub record IsTrack (t : TrackView) : Type 0 where
   pub few : length t.granules ≤ 2
   pub number : t.frame + min 1 (length t.granules) ≤ 4294967297
   pub begin : t.begin ≤ mmax_of t.settings
+  pub reached : t.begin ≤ slots_before t.settings t.frame
   pub each : All (IsCodedGranule t.settings t.settings.channels) t.granules
   pub kept : granules_length t.granules + t.reserve ≡
       8 * t.begin + mean_bits_of t.settings t.frame * (channels_of t.settings.channels * length t.granules)

@@ -1,21 +1,17 @@
 ghost use Rattle.std.specs.Prelude.{◌≡◌, ◌+◌, ◌≤◌, ◌<◌, ◌^◌, ◌∷◌, []};
-ghost use Rattle.l3_base.specs.Amp.{no_amp};
-ghost use Rattle.l3_base.specs.Lengths.{mean_bits_of};
 ghost use Rattle.l3_base.specs.Spectrum.{IsSpectrum};
-ghost use Rattle.l3_reservoir.specs.Budget.{left_by};
 ghost use Rattle.l3_stream.specs.Frames.{blank};
-ghost use Rattle.l3_search.specs.Gain.{tried_of};
-ghost use Rattle.l3_commit.specs.Units.{unit_within};
-ghost use Rattle.l3_tables.specs.Bands.{band_edges};
-ghost use Rattle.l3_commit.specs.Choice.{budget_at, unit_chosen, after_unit, granule_chosen, after_granule, AreOfChannels};
+ghost use Rattle.l3_analysis.specs.Piece.{HasSpectra, IsChannel, memo_in, spectrum_in, with_memo};
+ghost use Rattle.l3_commit.specs.Choice.{unit_chosen, after_unit, granule_chosen, after_granule, AreOfChannels};
 ghost use Rattle.l3_commit.specs.Tried.{unit_tried, granule_tried};
-ghost use Rattle.l3_commit.specs.Encoding.{of_channel};
+ghost use Rattle.l3_commit.specs.Lacking.{HasUnitCounted, IsCommitted, IsLike, granule_lacking, unit_lacking};
 
+use crate::track::GranuleDone;
 use crate::unit::write_unit;
-use l3_base::{Amp, Channels, Settings, Spectrum, Steps};
-use l3_energy::demand;
+use l3_analysis::Piece;
+use l3_base::{Channels, Settings, Steps};
+use l3_quant::first_gain;
 use l3_reservoir::Reserve;
-use l3_search::{Memo, pick};
 use l3_stream::Unit;
 use std::sync::ledger::Ledger;
 
@@ -27,91 +23,83 @@ pub(crate) struct Place {
     pub(crate) frame: u64,
 }
 
-// The bits that a unit may take under the reserve before it.
-fn budget(reserve: &Reserve, place: Place, spec: &Spectrum) -> u32
-    requires { place.frame ≤ 2 ^ 32 }
-    ensures value { result ≡ budget_at place.settings place.frame reserve.now spec.now }
-    ensures limit { result ≤ 4095 }
-    ensures covered { result ≤ mean_bits_of place.settings place.frame + reserve.now }
-{
-    reserve.budget(
-        &place.settings,
-        place.frame,
-        demand(spec, place.settings.sample_rate),
-    )
-}
-
-// Writes the unit that is picked within a budget, and
-// takes its bits. The answer is how many gains were tried.
+// Writes the unit that a channel of a piece takes under the reserve before it, and takes its bits.
+// Counts that the piece has are not made again.
 fn choose<L: Ledger + Send>(
     reserve: &mut Reserve,
     place: Place,
-    spec: &Spectrum,
-    budget: u32,
-    memo: &mut Memo,
+    piece: &mut Piece,
+    channel: u8,
     steps: &mut Steps<L>,
     unit: &mut Unit,
-) -> u16
+) -> GranuleDone
     requires number { place.frame ≤ 2 ^ 32 }
-    requires limit { budget ≤ 4095 }
-    requires covered { budget ≤ mean_bits_of place.settings place.frame + reserve.old }
     requires room { reserve.old < 2 ^ 40 }
-    ensures value { unit.new ≡ unit_within place.settings budget spec.now }
-    ensures spectrum { IsSpectrum spec.now }
-    ensures rest { reserve.new ≡ left_by reserve.old (mean_bits_of place.settings place.frame) unit.new.length }
+    requires stage { HasSpectra piece.old.stage }
+    requires channel { IsChannel piece.old channel }
+    requires rate { piece.old.settings.sample_rate ≡ place.settings.sample_rate }
+    ensures value { unit.new ≡ unit_chosen place.settings place.frame reserve.old (spectrum_in piece.old channel) }
+    ensures spectrum { IsSpectrum (spectrum_in piece.old channel) }
+    ensures rest { reserve.new ≡ after_unit place.settings place.frame reserve.old (spectrum_in piece.old channel) }
     ensures small { reserve.new < reserve.old + 2 ^ 32 }
-    ensures tried { result ≡ tried_of (band_edges place.settings.sample_rate) no_amp spec.now budget }
-    ensures few { result ≤ 256 }
-    ensures ticks { steps.new ≡ steps.old + result }
+    ensures tried { result.tried ≡ unit_tried place.settings place.frame reserve.old (spectrum_in piece.old channel) }
+    ensures few { result.tried ≤ 256 }
+    ensures made { result.made ≡ unit_lacking place.settings place.frame reserve.old piece.old channel }
+    ensures fewer { result.made ≤ result.tried }
+    ensures ticks { steps.new ≡ steps.old + result.made }
+    ensures memo { HasUnitCounted place.settings place.frame reserve.old piece.old piece.new channel }
+    ensures piece { piece.new ≡ with_memo piece.old channel (memo_in piece.new channel) }
 {
-    memo.clear();
+    let demand = piece.demand(channel);
+    let budget = reserve.budget(&place.settings, place.frame, demand);
+    let picked = piece.choose(channel, budget, steps);
+    reserve.spend(&place.settings, place.frame, picked.count.bits());
+    let spec = piece.spectrum(channel);
     // For the proof alone: that the spectrum has its shape and range.
     let _lines = spec.lines();
-    let picked = pick(
-        spec,
-        place.settings.sample_rate,
-        &Amp::zero(),
-        0,
-        budget,
-        memo,
-        steps,
-    );
-    reserve.spend(&place.settings, place.frame, picked.count.bits());
+    let first = first_gain(spec);
     write_unit(spec, &picked.count, unit);
-    picked.made
+    let tried = (u32::from(picked.count.gain()) + 1).saturating_sub(u32::from(first));
+    GranuleDone {
+        made: u32::from(picked.made),
+        tried,
+    }
 }
 
-// Writes the units of a granule under the reserve
-// before it. The answer is how many gains were tried.
+// Writes the units of a piece's granule under the reserve before it.
 pub(crate) fn choose_granule<L: Ledger + Send>(
     reserve: &mut Reserve,
     place: Place,
-    left: &Spectrum,
-    right: &Spectrum,
-    memo: &mut Memo,
+    piece: &mut Piece,
     steps: &mut Steps<L>,
     units: &mut [Unit; 2],
-) -> u32
+) -> GranuleDone
     requires number { place.frame ≤ 2 ^ 32 }
     requires room { reserve.old < 2 ^ 36 }
-    ensures value { units.new ≡ granule_chosen place.settings place.frame reserve.old (of_channel left.now right.now) }
-    ensures spectra { AreOfChannels place.settings.channels (of_channel left.now right.now) }
-    ensures rest { reserve.new ≡ after_granule place.settings place.frame reserve.old (of_channel left.now right.now) }
-    ensures tried { result ≡ granule_tried place.settings place.frame reserve.old (of_channel left.now right.now) }
-    ensures few { result ≤ 512 }
-    ensures ticks { steps.new ≡ steps.old + result }
+    requires stage { HasSpectra piece.old.stage }
+    requires settings { IsLike place.settings piece.old.settings }
+    ensures value { units.new ≡ granule_chosen place.settings place.frame reserve.old (spectrum_in piece.old) }
+    ensures spectra { AreOfChannels place.settings.channels (spectrum_in piece.old) }
+    ensures rest { reserve.new ≡ after_granule place.settings place.frame reserve.old (spectrum_in piece.old) }
+    ensures tried { result.tried ≡ granule_tried place.settings place.frame reserve.old (spectrum_in piece.old) }
+    ensures few { result.tried ≤ 512 }
+    ensures made { result.made ≡ granule_lacking place.settings place.frame reserve.old piece.old }
+    ensures fewer { result.made ≤ result.tried }
+    ensures ticks { steps.new ≡ steps.old + result.made }
+    ensures piece { IsCommitted place.settings place.frame reserve.old piece.old piece.new }
 {
-    let bits = budget(reserve, place, left);
-    let first = choose(reserve, place, left, bits, memo, steps, &mut units[0]);
+    let first = choose(reserve, place, piece, 0, steps, &mut units[0]);
     match place.settings.channels {
         Channels::Mono => {
             units[1] = Unit::blank();
-            u32::from(first)
+            first
         }
         Channels::Stereo => {
-            let bits = budget(reserve, place, right);
-            let second = choose(reserve, place, right, bits, memo, steps, &mut units[1]);
-            u32::from(first) + u32::from(second)
+            let second = choose(reserve, place, piece, 1, steps, &mut units[1]);
+            GranuleDone {
+                made: first.made + second.made,
+                tried: first.tried + second.tried,
+            }
         }
     }
 }

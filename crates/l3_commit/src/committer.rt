@@ -2,7 +2,7 @@ ghost use Rattle.std.specs.Prelude.{◌≡◌, ◌+◌, ◌*◌, ◌≤◌, ◌<
 ghost use Rattle.std.specs.Borrow.{sem};
 ghost use Rattle.l3_base.specs.Lengths.{mmax_of, frames_for, granules_for};
 ghost use Rattle.l3_base.specs.declared.settings.Settings.{Settings};
-ghost use Rattle.l3_mdct.specs.Spectrum.{spectrum_of_granule};
+ghost use Rattle.l3_analysis.specs.Piece.{silence};
 ghost use Rattle.l3_reservoir.specs.Budget.{begin_after};
 ghost use Rattle.l3_stream.specs.declared.unit.ChosenFrame.{ChosenFrame};
 ghost use Rattle.l3_commit.specs.Choice.{frame_chosen};
@@ -14,10 +14,9 @@ ghost use Rattle.l3_commit.specs.Tried.{tried_at};
 
 use crate::track::{GranuleDone, Track};
 use crate::window::fill;
-use l3_base::{Channels, GranuleNo, Settings, Spectrum, Steps};
-use l3_mdct::spectrum;
+use l3_analysis::Piece;
+use l3_base::{Channels, GranuleNo, Settings, Steps, Window};
 use l3_polyphase::Kept;
-use l3_search::Memo;
 use l3_stream::ChosenFrame;
 use l3_wav::Pcm;
 use std::marker::Model;
@@ -32,17 +31,17 @@ pub struct Committer {
     track: Track,
     pcm: Pcm,
     is_ready: bool,
-    left_lines: Spectrum,
-    right_lines: Spectrum,
-    window: [i16; 1632],
-    left_slots: Kept,
-    right_slots: Kept,
-    memo: Memo,
+    // The granule that was gathered last, where its window was written, and the windows before it.
+    own: Piece,
+    window: Window,
+    left: Kept,
+    right: Kept,
 }
 
 impl Model for Committer {
     ghost use Rattle.std.specs.Prelude.{length, ◌≤◌};
-    ghost use Rattle.l3_commit.specs.Standing.{CommitterView};
+    ghost use Rattle.l3_analysis.specs.Piece.{spectrum_in};
+    ghost use Rattle.l3_commit.specs.Standing.{CommitterView, HasOwn};
 
     ghost Value = { CommitterView };
 
@@ -51,11 +50,11 @@ impl Model for Committer {
       left = c.pcm.left.items;
       right = c.pcm.right.items;
       is_ready = c.is_ready;
-      left_lines = c.left_lines;
-      right_lines = c.right_lines;
+      left_lines = spectrum_in c.own 0;
+      right_lines = spectrum_in c.own 1;
     } };
 
-    ghost invariant = { λ c. length c.pcm.left.items ≤ 2147483647 };
+    ghost invariant = { λ c. (length c.pcm.left.items ≤ 2147483647) × HasOwn c.track c.window c.own c.is_ready };
 }
 
 // How many granules so many samples of a channel are to have: two to a frame.
@@ -71,26 +70,15 @@ fn granules(samples: usize) -> u64
     }
 }
 
-// Makes the spectrum of a granule of samples, `slots` having the slots of any granule of them: those
-// that the two share are not made anew.
-fn transform(
-    samples: &[i16],
-    granule: u64,
-    window: &mut [i16; 1632],
-    slots: &mut Kept,
-    lines: &mut Spectrum,
-)
-    requires { granule ≤ 8589934592 }
-    ensures { lines.new ≡ spectrum_of_granule samples.now granule }
-{
-    fill(window, samples, granule);
-    slots.go_on(window);
-    spectrum(slots.slots(), lines);
-}
-
 // A window of zeros.
-fn no_window() -> [i16; 1632] {
-    [0; 1632]
+#[inline(always)]
+fn no_window() -> Window
+    ensures { result ≡ silence }
+{
+    Window {
+        left: [0; 1632],
+        right: [0; 1632],
+    }
 }
 
 impl Committer {
@@ -109,12 +97,10 @@ impl Committer {
             track: Track::new(settings),
             pcm,
             is_ready: false,
-            left_lines: Spectrum::zero(),
-            right_lines: Spectrum::zero(),
+            own: Piece::blank(settings),
             window: no_window(),
-            left_slots: Kept::zero(),
-            right_slots: Kept::zero(),
-            memo: Memo::new(),
+            left: Kept::zero(),
+            right: Kept::zero(),
         }
     }
 
@@ -143,22 +129,12 @@ impl Committer {
             unreachable!();
         };
         let granule = number.get();
-        transform(
-            &self.pcm.left,
-            granule,
-            &mut self.window,
-            &mut self.left_slots,
-            &mut self.left_lines,
-        );
+        fill(&mut self.window.left, &self.pcm.left, granule);
         if self.track.channels() == Channels::Stereo {
-            transform(
-                &self.pcm.right,
-                granule,
-                &mut self.window,
-                &mut self.right_slots,
-                &mut self.right_lines,
-            );
+            fill(&mut self.window.right, &self.pcm.right, granule);
         }
+        self.own.load(number, &self.window, 0);
+        self.own.transform_after(&mut self.left, &mut self.right);
         self.is_ready = true;
     }
 
@@ -176,17 +152,8 @@ impl Committer {
         ensures made { result.made ≡ result.tried }
         ensures ticks { steps.new ≡ steps.old + result.made }
     {
-        let Some(number) = self.next() else {
-            unreachable!();
-        };
         self.is_ready = false;
-        self.track.commit_granule(
-            number,
-            &self.left_lines,
-            &self.right_lines,
-            &mut self.memo,
-            steps,
-        )
+        self.track.commit_granule(&mut self.own, steps)
     }
 
     /// Ends the frame whose second granule was committed

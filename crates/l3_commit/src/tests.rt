@@ -1,8 +1,10 @@
 ghost use Rattle.std.specs.Prelude.{◌≡◌, ◌<◌, ◌≤◌, IfOk, length, false};
+ghost use Rattle.l3_analysis.specs.declared.stage.Stage.TheVariants.{Transformed};
 ghost use Rattle.l3_commit.specs.Standing.{IsRightOf};
 
-use crate::Committer;
-use l3_base::{Channels, Rate, SampleRate, Settings, Steps};
+use crate::{Committer, GranuleDone, Track};
+use l3_analysis::Piece;
+use l3_base::{Channels, GranuleNo, Rate, SampleRate, Settings, Steps, Window};
 use l3_stream::QuadTable::{A, B};
 use l3_stream::{QuadTable, Unit};
 use l3_wav::Pcm;
@@ -162,4 +164,62 @@ fn units_of_steps(rt: HostRuntime) -> Result<(), AllocError> {
     ));
     assert_eq!(rt; found[1], expected);
     Ok(())
+}
+
+// 128 kbit/s, 44100 Hz.
+fn settings_of(channels: Channels) -> Settings {
+    Settings {
+        rate: Rate::K128,
+        sample_rate: SampleRate::Hz44100,
+        channels,
+    }
+}
+
+// A piece of zeros, transformed.
+fn silent_piece(settings: Settings, number: GranuleNo) -> Piece
+    ensures number { result.number ≡ number }
+    ensures stage { result.stage ≡ Transformed }
+    ensures settings { result.settings ≡ settings }
+{
+    let window = Window {
+        left: [0; 1632],
+        right: [0; 1632],
+    };
+    let mut piece = Piece::blank(settings);
+    piece.load(number, &window, 0);
+    piece.transform();
+    piece
+}
+
+// What the first two granules of silence take, the first of a piece that is presumed under the
+// right reserve and the second of one that is only transformed; and where the next frame begins.
+fn silent_frame<L: Ledger + Send>(
+    blank: Blank,
+    channels: Channels,
+) -> Option<([GranuleDone; 2], u16)>
+    requires name { blank.name ≡ L.name }
+    requires parts { blank.parts ≡ L.parts }
+    requires some { 0 < blank.parts }
+{
+    let mut steps: Steps<L> = Steps::start(blank);
+    let settings = settings_of(channels);
+    let mut track = Track::new(settings);
+    let mut first = silent_piece(settings, GranuleNo::new(0)?);
+    first.presume(&mut steps);
+    let presumed = track.commit_granule(&mut first, &mut steps);
+    let mut second = silent_piece(settings, GranuleNo::new(1)?);
+    let transformed = track.commit_granule(&mut second, &mut steps);
+    let _frame = track.commit_frame();
+    Some(([presumed, transformed], track.begin()))
+}
+
+#[test]
+fn counts_of_a_presumed_piece(rt: HostRuntime) {
+    // A frame of 417 bytes: 21 of them are header and side information in mono, and 36 in stereo.
+    for (channels, tried, begin) in [(Channels::Mono, 1, 396), (Channels::Stereo, 2, 381)] {
+        let found = silent_frame::<Brand>(Blank::new(1), channels);
+        let presumed = GranuleDone { made: 0, tried };
+        let transformed = GranuleDone { made: tried, tried };
+        assert_eq!(rt; found, Some(([presumed, transformed], begin)));
+    }
 }

@@ -1,15 +1,16 @@
 ghost use Rattle.std.specs.Prelude.{◌≡◌, ◌+◌, ◌-◌, ◌*◌, ◌≤◌, ◌<◌, ◌^◌, ◌++◌, ◌∷◌, [], ℕ, List, take, length};
 ghost use Rattle.std.specs.Borrow.{sem};
-ghost use Rattle.l3_base.specs.Lengths.{mmax_of};
+ghost use Rattle.l3_base.specs.Lengths.{mmax_of, slots_before};
 ghost use Rattle.l3_reservoir.specs.Budget.{begin_after};
-ghost use Rattle.l3_commit.specs.Encoding.{of_channel};
+ghost use Rattle.l3_analysis.specs.Piece.{HasSpectra, spectrum_in};
 ghost use Rattle.l3_stream.specs.Tape.{CanFollow};
+ghost use Rattle.l3_commit.specs.Lacking.{IsCommitted, IsLike, granule_lacking};
 ghost use Rattle.l3_commit.specs.Tried.{granule_tried};
 
 use crate::choosing::{Place, choose_granule, no_units};
-use l3_base::{Channels, GranuleNo, Settings, Spectrum, Steps};
+use l3_analysis::Piece;
+use l3_base::{Channels, Settings, Steps};
 use l3_reservoir::Reserve;
-use l3_search::Memo;
 use l3_stream::ChosenFrame;
 use std::marker::Model;
 use std::sync::ledger::Ledger;
@@ -17,15 +18,20 @@ use std::sync::ledger::Ledger;
 /// What a granule took.
 #[derive(Clone, Copy, Debug, PartialEq, Eq)]
 pub struct GranuleDone {
-    /// By how much the counter rose: how many counts were made, at most 512.
+    /// By how much the counter rose: how many counts were made, which the piece lacked.
     pub made: u32,
-    /// Gains tried: for each channel those from its first gain to the picked one.
+    /// Gains tried: for each channel those from its first gain to the picked one, at most 512.
     pub tried: u32,
 }
 
-// The choice of frames, granule after granule.
+/// The choice of frames, granule after granule: in each frame the units of its granules, each under
+/// the reserve of the bit reservoir that those before it left (ISO/IEC 11172-3, 2.4 and Annex C;
+/// how a unit's budget is found is this project's own).
+///
+/// What it chooses is a matter of the pieces' windows alone. Counts that a piece brings along spare
+/// the making of them, and change nothing else.
 #[derive(Drop)]
-pub(crate) struct Track {
+pub struct Track {
     settings: Settings,
     frame: u64,
     begin: u16,
@@ -50,9 +56,10 @@ impl Track {
     ghost use Rattle.l3_commit.specs.Resting.{RestsTrack};
     ghost use Rattle.l3_stream.specs.declared.unit.ChosenFrame.{ChosenFrame};
 
-    // Before granule 0.
-    pub(crate) fn new(settings: Settings) -> Track
-        ensures { result ≡ first_track settings }
+    /// Before granule 0, with no frame lent out.
+    pub fn new(settings: Settings) -> Track
+        ensures value { result ≡ first_track settings }
+        ensures follows { CanFollow settings 0 0 [] }
     {
         Track {
             settings,
@@ -74,54 +81,71 @@ impl Track {
         self.settings.channels
     }
 
-    // The number of the granule that comes next.
-    pub(crate) fn next(&self) -> u64
+    /// The number of the granule that comes next.
+    pub fn next(&self) -> u64
         ensures value { result ≡ next_of self.now }
         ensures kept { IsTrack self.now }
     {
         2 * self.frame + u64::from(self.done)
     }
 
-    // Takes the units of granule `next()`, which has these spectra. In mono `right` does not count.
-    pub(crate) fn commit_granule<L: Ledger + Send>(
+    /// `main_data_begin` of the frame that is begun, in bytes: no more than the field and decoders
+    /// reach, and than there are slot bytes before the frame.
+    pub fn begin(&self) -> u16
+        ensures value { result ≡ self.now.begin }
+        ensures limit { result ≤ mmax_of self.now.settings }
+        ensures reached { result ≤ slots_before self.now.settings self.now.frame }
+    {
+        self.begin
+    }
+
+    /// Chooses the units of granule `next()`, whose piece this is: each channel's unit is the one
+    /// picked within its budget under the reserve. The piece is transformed or presumed, and its
+    /// settings are the track's but for the rate.
+    ///
+    /// Counts that the piece lacks are made, one step of the counter each, and put into its memos.
+    pub fn commit_granule<L: Ledger + Send>(
         &mut self,
-        number: GranuleNo,
-        left: &Spectrum,
-        right: &Spectrum,
-        memo: &mut Memo,
+        piece: &mut Piece,
         steps: &mut Steps<L>,
     ) -> GranuleDone
-        requires number { number ≡ next_of self.old }
+        requires number { piece.old.number ≡ next_of self.old }
         requires turn { length self.old.granules < 2 }
-        ensures value { self.new ≡ with_granule self.old (of_channel left.now right.now) }
-        ensures tried { result.tried ≡ granule_tried self.old.settings self.old.frame self.old.reserve (of_channel left.now right.now) }
+        requires stage { HasSpectra piece.old.stage }
+        requires settings { IsLike self.old.settings piece.old.settings }
+        ensures value { self.new ≡ with_granule self.old (spectrum_in piece.old) }
+        ensures tried { result.tried ≡ granule_tried self.old.settings self.old.frame self.old.reserve (spectrum_in piece.old) }
         ensures few { result.tried ≤ 512 }
-        ensures made { result.made ≡ result.tried }
+        ensures made { result.made ≡ granule_lacking self.old.settings self.old.frame self.old.reserve piece.old }
+        ensures fewer { result.made ≤ result.tried }
         ensures ticks { steps.new ≡ steps.old + result.made }
+        ensures piece { piece.new ≡ record piece.old { memos = piece.new.memos } }
+        ensures memos { IsCommitted self.old.settings self.old.frame self.old.reserve piece.old piece.new }
     {
         // For the proof alone: that a granule with this number is below the limit.
-        let _number = number.get();
+        let _number = piece.number().get();
         let at = usize::from(self.done);
         let place = Place {
             settings: self.settings,
             frame: self.frame,
         };
-        let tried = choose_granule(
+        let done = choose_granule(
             &mut self.reserve,
             place,
-            left,
-            right,
-            memo,
+            piece,
             steps,
             &mut self.current.units[at],
         );
         self.done += 1;
-        GranuleDone { made: tried, tried }
+        done
     }
 
-    // Ends the frame and lends it out. Whatever frames it
-    // can follow, the next frame can follow them and it.
-    pub(crate) fn commit_frame(&mut self) -> &ChosenFrame
+    /// Ends the frame whose second granule was committed last, by the rule of the reservoir, and
+    /// lends it out. `begin()` is then that of the next frame.
+    ///
+    /// Whatever frames it can follow, the next frame can follow them and it. So the frames that a
+    /// track has lent out fit one behind the other, whatever its pieces held.
+    pub fn commit_frame(&mut self) -> &ChosenFrame
         requires { length self.old.granules ≡ 2 }
         ensures frame { result.now ≡ record { begin = self.old.begin; units = self.old.granules } }
         ensures follows { (fs : List ChosenFrame) → CanFollow self.old.settings self.old.frame self.old.begin fs →

@@ -1,11 +1,20 @@
-use Rattle.std.proofs.Common.{◌≡◌, ◌+◌, ◌++◌, ◌∷◌, [], ap, ◌∙◌, sym, subst, length, take, refl}
+use Rattle.std.proofs.Common.{◌≡◌, ◌+◌, ◌++◌, ◌∷◌, [], arith, ap, ◌∙◌, sym, subst, length, take, refl}
 use Rattle.l3_base.specs.Lengths.{mmax_of}
 use Rattle.l3_reservoir.specs.Budget.{begin_after}
 use Rattle.l3_stream.specs.declared.unit.ChosenFrame.{ChosenFrame}
 use Rattle.l3_stream.specs.Tape.{CanFollow}
 use Rattle.l3_commit.specs.Tracks.{TrackView, IsTrack}
-use Rattle.l3_commit.proofs.Tracking.{taken-whole, follows-ended, ended-view}
+use Rattle.l3_commit.proofs.Tracking.{taken-whole, follows-ended, ended-view, kept-ended}
 use Rattle.l3_commit.proofs.track.Track.commit_frame.Goals as goal
+
+pub invariant_of-self : goal.invariant_of-self
+invariant_of-self c =
+    let granules = ap (λ (t : TrackView). t.granules) c.self.view_is in
+    let two : length (take c.self.inside.done c.self.inside.current.units) ≡ 2 = ap length granules ∙ c.requires in (
+      omega arith,
+      c.self.invariant.1,
+      kept-ended _ c.frame_end-end.result.begin c.frame_end-end.new.self c.self.invariant.2 two c.frame_end-end.ensures.begin c.frame_end-end.ensures.rest,
+    )
 
 pub returns : goal.returns
 returns c =

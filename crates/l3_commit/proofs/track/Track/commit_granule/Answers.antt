@@ -1,12 +1,12 @@
 use Rattle.std.proofs.Common.{◌≡◌, ◌<◌, ◌≤◌, ◌+◌, ap, ◌∙◌, arith, length, take, slice_set, ◌++◌, ◌∷◌, []}
 use Rattle.std.proofs.Math.ListN.{length-set}
 use Rattle.l3_commit.specs.Tracks.{TrackView, next_of}
-use Rattle.l3_commit.specs.Encoding.{of_channel}
+use Rattle.l3_analysis.specs.Piece.{spectrum_in}
 use Rattle.l3_commit.proofs.Tracking.{taken-length, taken-more, kept-granule, reserve-small}
 use Rattle.l3_commit.proofs.track.Track.commit_granule.Goals as goal
 
-pub choose_granule-tried-requires-clause-room : goal.choose_granule-tried-requires-clause-room
-choose_granule-tried-requires-clause-room g c =
+pub choose_granule-done-requires-clause-room : goal.choose_granule-done-requires-clause-room
+choose_granule-done-requires-clause-room g c =
     let small = reserve-small _ c.self.invariant.2 in
     omega (arith, small)
 
@@ -21,11 +21,11 @@ invariant_of-self g c =
     let there : c.self.inside.done < length units = omega (arith, few, long, inv.1) in
     let number : c.self.inside.frame ≤ 4294967296 = omega (arith, is, c.requires.number) in
     let e : c.from-at.result ≡ c.self.inside.done = c.from-at.ensures in
-    let made = c.choose_granule-tried in
+    let made = c.choose_granule-done in
     let value : take (c.self.inside.done + 1) (slice_set units c.from-at.result made.new.units) ≡ take c.self.inside.done units ++ (made.new.units ∷ []) =
     rw e (taken-more c.self.inside.done units made.new.units there) in (
       omega arith,
       simp length-set inv.1,
-      kept-granule _ (of_channel c.args.left.now c.args.right.now) made.new.reserve _ made.ensures.spectra inv.2 few number made.ensures.rest
+      kept-granule _ (spectrum_in c.args.piece.now) made.new.reserve _ made.ensures.spectra inv.2 few number made.ensures.rest
           (value ∙ ap (λ x. take c.self.inside.done units ++ (x ∷ [])) made.ensures.value),
     )
