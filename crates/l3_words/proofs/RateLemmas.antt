@@ -1,11 +1,11 @@
--- The number that a word writes, and what words ask for.
+-- The rate that is found by its number.
 use Rattle.std.proofs.Common.{◌≡◌, ◌∙◌, inl, inr, sym, ap, refl, ℕ, ◌<◌, ◌≤◌, Bool, false, eqb, List, [], ◌∷◌, arith}
 use Rattle.std.proofs.lemmas.Bool.Decides.{eqb_tells}
 use Rattle.std.specs.Prelude.{Option, Some, None, IfSome, IfNone, find, ◌==◌}
 use Rattle.l3_base.specs.declared.rate.Rate.{Rate}
 use Rattle.l3_base.specs.declared.rate.Rate.TheVariants.{K32, K40, K48, K56, K64, K80, K96, K112, K128, K160, K192, K224, K256, K320}
 use Rattle.l3_base.specs.Rates.{kbits_of, IsNoRate}
-use Rattle.mp3enc.specs.Words.{rates, rate_of}
+use Rattle.l3_words.specs.Words.{rates, rate_of}
 
 -- each rate is found by its number
 found : (rate : Rate) → rate_of (kbits_of rate) ≡ Some rate
@@ -40,23 +40,3 @@ no_rate kbits none = found_none (λ rate. kbits_of rate == kbits) rates (λ rate
 pub rate_is : (answer : Option Rate) (kbits : ℕ) → IfSome answer (λ rate. kbits_of rate ≡ kbits) → IfNone answer (IsNoRate kbits) → answer ≡ rate_of kbits
 rate_is (Some rate) kbits some none = sym (ap rate_of (sym some) ∙ found rate)
 rate_is None kbits some none = sym (no_rate kbits none)
-
-low : (rate : Rate) → kbits_of rate ≤ 320
-low K32 = omega arith
-low K40 = omega arith
-low K48 = omega arith
-low K56 = omega arith
-low K64 = omega arith
-low K80 = omega arith
-low K96 = omega arith
-low K112 = omega arith
-low K128 = omega arith
-low K160 = omega arith
-low K192 = omega arith
-low K224 = omega arith
-low K256 = omega arith
-low K320 = omega arith
-
--- no rate is above 320 kbit/s
-pub no_rate_above : (kbits : ℕ) → 320 < kbits → None ≡ rate_of kbits
-no_rate_above kbits above = sym (no_rate kbits (λ rate is. absurd (omega (arith, above, is, low rate))))
