@@ -126,9 +126,7 @@ impl Piece {
         self.left.transform_after(&self.window.left, left, rate);
         match self.settings.channels {
             Channels::Mono => {}
-            Channels::Stereo => self
-                .right
-                .transform_after(&self.window.right, right, rate),
+            Channels::Stereo => self.right.transform_after(&self.window.right, right, rate),
         }
     }
 

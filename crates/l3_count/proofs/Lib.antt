@@ -3,3 +3,4 @@ pub mod Cuts
 pub mod Tops
 pub mod Memos
 pub mod Costs
+pub mod Zeros

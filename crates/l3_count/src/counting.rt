@@ -1,4 +1,4 @@
-ghost use Rattle.std.specs.Prelude.{◌≡◌, ◌<◌, ◌≤◌, ◌+◌, ◌*◌, ℕ, ℤ, List, Any, IfNone, IfSome, Some, length, pos, unsigned_abs};
+ghost use Rattle.std.specs.Prelude.{◌≡◌, ◌<◌, ◌≤◌, ◌+◌, ◌*◌, ℕ, ℤ, List, All, Any, IfNone, IfSome, Some, length, pos, replicate, unsigned_abs};
 ghost use Rattle.l3_quant.specs.Quantiser.{IsCodable};
 ghost use Rattle.l3_quant.specs.Amplified.{quantised_bands};
 ghost use Rattle.l3_region.specs.Bands.{band_edges};
@@ -20,6 +20,45 @@ fn no_pairs() -> [u8; 288]
     ensures { length result ≡ 288 }
 {
     [0; 288]
+}
+
+// Pairs of zeros.
+#[inline(always)]
+fn zero_pairs() -> [u8; 288]
+    ensures { result ≡ replicate 288 0 }
+{
+    [0; 288]
+}
+
+// The class of zeros, for each band.
+#[inline(always)]
+fn zero_classes() -> [u8; 32]
+    ensures { result ≡ replicate 32 0 }
+{
+    [0; 32]
+}
+
+/// What a unit of zeros costs at a gain under an amplification. It is one step of the counter.
+pub fn count_zeros<L: Ledger + Send>(
+    rate: SampleRate,
+    amp: &Amp,
+    gain: u8,
+    steps: &mut Steps<L>,
+) -> Count
+    ensures value { (lines : List ℤ) → length lines ≡ 576 → All (λ x. x ≡ pos 0) lines → count_of (band_edges rate) amp.now lines gain ≡ Some result }
+    ensures ticks { steps.new ≡ steps.old + 1 }
+{
+    steps.tick();
+    let pairs = zero_pairs();
+    let classes = zero_classes();
+    Count::of_pairs(
+        &pairs,
+        &classes,
+        Split { big: 0, quads: 0 },
+        rate,
+        amp,
+        gain,
+    )
 }
 
 /// What a unit costs at a gain under an amplification, or `None` exactly where a quantised value is

@@ -13,7 +13,7 @@ mod laws;
 mod memo;
 
 pub use count::Count;
-pub use counting::{count_at, count_over};
+pub use counting::{count_at, count_over, count_zeros};
 pub use l3_region::{QuadTable, Regions, Split};
 pub use laws::counts_are_least;
 pub use memo::Memo;

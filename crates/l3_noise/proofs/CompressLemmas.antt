@@ -1,8 +1,8 @@
 -- The scalefac_compress of an amplification, by the greatest amplification of either part.
-use Rattle.std.proofs.Common.{◌≡◌, ℕ, ◌+◌, ◌-◌, ◌*◌, ◌/◌, ◌%◌, ◌^◌, ◌<◌, ◌≤◌, Bool, true, false, ◌&&◌, List, [], ◌∷◌, length, get_or, take, drop, eqb, ltb, max, arith, refl, sym, ap, ◌∙◌, inl, inr, subst, if◌then◌else◌}
+use Rattle.std.proofs.Common.{◌≡◌, ℕ, ◌+◌, ◌-◌, ◌*◌, ◌/◌, ◌%◌, ◌^◌, ◌<◌, ◌≤◌, Bool, true, false, ◌&&◌, List, [], ◌∷◌, length, get_or, leb, take, drop, eqb, ltb, max, arith, refl, sym, ap, ◌∙◌, inl, inr, subst, if◌then◌else◌}
 use Rattle.std.specs.Prelude.{All, nat_lt, slice_range, ◌||◌}
 use Rattle.std.specs.List.{filter, list_all, range_with_len}
-use Rattle.std.proofs.lemmas.Bool.{agree_below, agree_below_at, cases_lt, eqb-true, eq-eqb, ltb-true, lt-ltb, le-ltb}
+use Rattle.std.proofs.lemmas.Bool.{agree_below, agree_below_at, cases_lt, eqb-true, eq-eqb, leb-true, ltb-true, lt-ltb, le-ltb}
 use Rattle.std.proofs.lemmas.Nat.{pow_pos}
 use Rattle.std.proofs.lemmas.List.{get_or-drop, length-drop}
 use Rattle.std.proofs.lemmas.List.Elements.{All-head, All-tail, All-take, All-drop}
@@ -107,6 +107,16 @@ entry_is first second le small =
     let n = 4 * first + second in
     pair (λ a b. get_or (get_or COMPRESS a []) b 0 ≡ compress_for a b) first second small
     (eqb-true _ _ (agree_below_at entry_test (λ _. true) 16 n refl (omega arith)))
+
+few_test : ℕ → Bool
+few_test n = leb (scalefactor_bits (compress_for (n / 4) (n % 4))) 42
+
+-- no case takes more than 42 bits
+pub bits_are_few : (first second : ℕ) → first ≤ 3 → second ≤ 3 → scalefactor_bits (compress_for first second) ≤ 42
+unfolding few_test compress_for scalefactor_bits slen1_of slen2_of
+bits_are_few first second le small =
+    pair (λ a b. scalefactor_bits (compress_for a b) ≤ 42) first second small
+    (leb-true _ _ (agree_below_at few_test (λ _. true) 16 (4 * first + second) refl (omega arith)))
 
 -- another number that has room is the same, or takes more bits
 other_test : ℕ → ℕ → ℕ → ℕ → Bool

@@ -74,11 +74,11 @@ fn greatest(amp: &Amp, from: usize, to: usize) -> u8
 /// The `scalefac_compress` that holds an amplification in the fewest bits, and these bits.
 ///
 /// Scale factors of `slen1` bits serve bands 0 to 10, of `slen2` bits bands 11 to 20; band 21 has
-/// none (ISO/IEC 11172-3, 2.4). With amplifications of up to 3 there are at most 42 bits.
+/// none (ISO/IEC 11172-3, 2.4). As no amplification is above 3, there are at most 42 bits.
 pub fn part2_of(amp: &Amp) -> Part2
     ensures value { result ≡ part2_of amp.now }
     ensures compress { result.compress < 16 }
-    ensures bits { result.bits ≤ 84 }
+    ensures bits { result.bits ≤ 42 }
 {
     let compress = compress(greatest(amp, 0, 11), greatest(amp, 11, 21));
     Part2 {

@@ -46,6 +46,11 @@ counted_row c d k h x row below is key before above others =
           omega (arith, before, others under))
     ]
 
+-- and how great it may be
+pub counted_most : (c d k : ℕ) (mark plane : ℤ) → c ≤ k → (mark <ℤ plane → d ≡ c + 1) → (plane ≤ℤ mark → d ≡ c) → d ≤ k + 1
+counted_most c d k mark plane le above others =
+    elim (above_or_not mark plane) [ inl over ↦ omega (arith, le, above over) | inr under ↦ omega (arith, le, others under) ]
+
 -- where the top of a row is not above, the count stays
 pub counted_all : (c k h x : ℕ) (row top least below : ℤ) → k < 15 → IsStored (k + 1) x row → below ≡ pos (key_at h) -ℤ pos 129 → least ≤ℤ below → row ≤ℤ top → top ≤ℤ least →
     c ≡ min (magnitude_at x h) k → c ≡ min (magnitude_at x h) 15

@@ -8,7 +8,8 @@ ghost use Rattle.l3_planes.specs.Classes.{class_cut_at, least_at, AreClassPlanes
 use crate::line::{exponent, mantissa};
 use crate::tables::{class_cut, class_less};
 
-// What all class planes of a band are made from: four times the place of its greatest line's highest digit and 130, and the mantissa; both are 0 for a band of zeros.
+// What all class planes of a band are made from: four times the place of its greatest line's
+// highest digit and 130, and the mantissa; both are 0 for a band of zeros.
 #[derive(Clone, Copy)]
 pub(crate) struct Wide {
     pub(crate) octave: u8,

@@ -49,7 +49,8 @@ fn rank(mantissa: u32) -> u8
     step(mantissa, step(mantissa, low))
 }
 
-// What all planes of a line are made from: four times the place of its highest digit and 130, and its rank; both are 0 for a line of 0.
+// What all planes of a line are made from: four times the place of its highest digit and 130, and
+// its rank; both are 0 for a line of 0.
 #[derive(Clone, Copy)]
 pub(crate) struct Ranked {
     pub(crate) octave: u8,

@@ -3,7 +3,7 @@ ghost use Rattle.l3_quant.specs.Quantiser.{magnitude_at};
 ghost use Rattle.l3_region.specs.Split.{split_of};
 ghost use Rattle.l3_planes.specs.Planes.{key_at, IsPlane};
 ghost use Rattle.l3_planes.specs.Rows.{size_at, AreRows, IsStored};
-ghost use Rattle.l3_planes.specs.Ends.{AreEnds, IsEnd, IsQuantised};
+ghost use Rattle.l3_planes.specs.Ends.{AreEnds, IsEnd, IsPairPlane, IsQuantised};
 
 use l3_region::Split;
 
@@ -15,15 +15,42 @@ fn plain(plane: i8) -> u8
     (i16::from(plane) + 128) as u8
 }
 
-// The greater plane of a pair's two lines, for the value `k + 1`.
+// The greater plane of a pair's two lines, for the value `k + 1`, by the pair's place in its block.
 #[inline(always)]
-fn pair_plane(rows: &[i8; 8640], k: usize, pair: usize) -> u8
+fn pair_plane(rows: &[i8; 8640], k: usize, block: usize, place: usize) -> u8
     requires value { k < 15 }
-    requires pair { pair < 288 }
-    ensures { (lines : List ℤ) → AreRows lines rows.now → (h : ℕ) → (result < key_at h) ↔ ((magnitude_at (size_at lines (2 * pair)) h ≤ k) × (magnitude_at (size_at lines (2 * pair + 1)) h ≤ k)) }
+    requires block { block < 18 }
+    requires place { place < 16 }
+    ensures { (lines : List ℤ) → AreRows lines rows.now → IsPairPlane lines k (16 * block + place) result }
 {
-    let cell = 480 * (pair / 16) + 32 * k + pair % 16;
+    let cell = 480 * block + 32 * k + place;
     plain(rows[cell]).max(plain(rows[cell + 16]))
+}
+
+// Writes the greater planes of a block's pairs.
+#[inline(always)]
+fn write_block(rows: &[i8; 8640], k: usize, block: usize, out: &mut [u8; 288])
+    requires value { k < 15 }
+    requires block { block < 18 }
+    requires long { length out.old ≡ 288 }
+    ensures long { length out.new ≡ 288 }
+    ensures here { (lines : List ℤ) → AreRows lines rows.now → (j : ℕ) → j < 16 → IsPairPlane lines k (16 * block + j) (slice_index out.new (16 * block + j)) }
+    ensures before { (i : ℕ) → i < 16 * block → slice_index out.new i ≡ slice_index out.old i }
+{
+    for j in 0..16 {
+        out[16 * block + j] = pair_plane(rows, k, block, j);
+    }
+}
+
+// Writes the greater planes of all pairs.
+fn write_pair_planes(rows: &[i8; 8640], k: usize, out: &mut [u8; 288])
+    requires { k < 15 }
+    ensures long { length out.new ≡ 288 }
+    ensures value { (lines : List ℤ) → AreRows lines rows.now → (pair : ℕ) → pair < 288 → IsPairPlane lines k pair (slice_index out.new pair) }
+{
+    for block in 0..18 {
+        write_block(rows, k, block, out);
+    }
 }
 
 // For each pair the greatest plane of the value `k + 1` from there to the end.
@@ -31,10 +58,11 @@ pub(crate) fn write_ends(rows: &[i8; 8640], k: usize, out: &mut [u8; 288])
     requires { k < 15 }
     ensures { (lines : List ℤ) → AreRows lines rows.now → AreEnds lines k out.new }
 {
+    write_pair_planes(rows, k, out);
     let mut end = 0u8;
     for r in 0..288 {
         let pair = 287 - r;
-        end = end.max(pair_plane(rows, k, pair));
+        end = end.max(out[pair]);
         out[pair] = end;
     }
 }

@@ -2,7 +2,8 @@ ghost use Rattle.std.specs.Prelude.{◌≡◌, ◌<◌, ◌≤◌, ◌^◌};
 ghost use Rattle.l3_planes.specs.Planes.{ranked_at, bucket_at, place_at, less_at};
 ghost use Rattle.l3_planes.specs.Classes.{class_less_at, class_cut_at};
 
-// The least mantissas at which a line is quantised to one more at some quarter step, in order; the last four are above all mantissas.
+// The least mantissas at which a line is quantised to one more at some quarter step, in order; the
+// last four are above all mantissas.
 pub(crate) static RANKED: [u32; 64] = [
     272150528, 276021180, 280180981, 284426985, 287596584, 292296074, 293372970, 295325696,
     297169501, 297797859, 299167744, 304719540, 310649363, 311295332, 318757740, 323643345,

@@ -108,3 +108,14 @@ whole_high u i lt = folded_columns_sum-part u (31 - i) ∙ part_sum-opposite 1 1
 -- the even columns of subband i, and how great they may be
 abbrev pub IsEvenSum : (ℕ → ℤ) → ℕ → ℤ → Type 0
 IsEvenSum u i z = (z ≡ part_sum 0 2 16 u i) × (unsigned_abs z ≤ 2 ^ 55)
+
+-- every fourth column of subbands i and 7 - i, in halves
+pub fourth_low : (u : ℕ → ℤ) (i : ℕ) → part_sum 0 4 8 u i ≡ part_sum 0 8 4 u i +ℤ part_sum 4 8 4 u i
+fourth_low u i = part_sum-halves 4 4 u i
+
+pub fourth_high : (u : ℕ → ℤ) (i : ℕ) → i < 4 → part_sum 0 4 8 u (7 - i) ≡ part_sum 0 8 4 u i -ℤ part_sum 4 8 4 u i
+fourth_high u i lt = part_sum-opposite 4 4 u i (7 - i) (omega arith)
+
+-- every fourth column of subband i, and how great they may be
+abbrev pub IsFourthSum : (ℕ → ℤ) → ℕ → ℤ → Type 0
+IsFourthSum u i z = (z ≡ part_sum 0 4 8 u i) × (unsigned_abs z ≤ 2 ^ 54)

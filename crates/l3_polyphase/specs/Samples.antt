@@ -1,5 +1,5 @@
--- The samples that a slot takes, the columns they are added up to, and the lists that slots are
--- written to. Only the inside of this crate speaks of these.
+-- The samples that a slot takes, and the lists that slots are written to.
+-- Only the inside of this crate speaks of these.
 use Rattle.std.specs.Prelude.{◌≡◌, ℕ, ◌-◌, ◌<◌, List, ℤ, length}
 use Rattle.l3_base.specs.Slots.{subband_in}
 use Rattle.l3_tables.specs.Lists.{entry}
@@ -7,10 +7,6 @@ use Rattle.l3_tables.specs.Lists.{entry}
 -- of 512 samples in order of time, the one n before the newest
 abbrev pub before_newest : List ℤ → ℕ → ℤ
 before_newest samples n = entry samples (511 - n)
-
--- of 64 columns, the last one first, column k
-abbrev pub column_in : List ℤ → ℕ → ℤ
-column_in sums k = entry sums (63 - k)
 
 -- 32 subbands of 36 slots
 pub record HasShape (bands : List (List ℤ)) : Type 0 where

@@ -96,7 +96,9 @@ fn high_sums(rows: &[[i16; 64]], k: usize) -> [i32; 32]
 }
 
 // The folded columns of slot `k` of some rows.
-#[inline(always)]
+//
+// It stays a function of its own: inside the loop over slots its sums are taken apart one by one.
+#[inline(never)]
 pub(crate) fn columns(rows: &[[i16; 64]], k: usize, u: &mut [i64; 32])
     requires { k + 14 < length rows.now }
     ensures value { (newest : ℕ → ℤ) → AreTaps newest rows.now k → (j : ℕ) → j < 32 → entry u.new j ≡ folded_column (column_sum newest) j }

@@ -5,8 +5,8 @@ ghost use Rattle.l3_polyphase.specs.Fold.{folded_column, folded_columns_sum};
 
 /// Folds the 64 columns of a slot to 32, which halves the products of each subband.
 ///
-/// Shape: columns in order of their number, each below 2^50 in absolute value. The filterbank itself
-/// folds samples and window entries of 16 bits, before the columns are added up.
+/// Shape: columns in order of their number, each below 2^50 in absolute value. The filterbank
+/// itself folds samples and window entries of 16 bits, before the columns are added up.
 pub fn fold64(y: &[i64; 64], u: &mut [i64; 32])
     requires { (k : ℕ) → k < 64 → unsigned_abs (entry y.now k) < 2 ^ 50 }
     ensures value { u.new ≡ tabulate 32 (folded_column (entry y.now)) }

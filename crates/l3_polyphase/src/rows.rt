@@ -6,8 +6,8 @@ ghost use Rattle.l3_polyphase.specs.Pairs.{IsTap, row_in};
 
 // 64 samples in order of time as pairs.
 //
-// The newest one is of column 0: so samples 47 - j and 47 + j are of the columns that make up folded
-// column j, and from 17 on 47 - j and j - 17.
+// The newest one is of column 0: so samples 47 - j and 47 + j are of the columns that make up
+// folded column j, and from 17 on 47 - j and j - 17.
 #[inline(always)]
 fn paired(samples: &[i16]) -> [i16; 64]
     requires { length samples.now ≡ 64 }

@@ -28,6 +28,26 @@ fn part(columns: &[i64; 32], i: usize, start: usize, step: usize, count: usize) 
     sum
 }
 
+// The sums of every fourth folded column, for the lower 8 subbands.
+//
+// They fold a third time: subband 7 - i has the products of subband i, every other one with the
+// other sign.
+#[inline(always)]
+fn fourth_sums(columns: &[i64; 32]) -> [i64; 8]
+    requires { (j : ℕ) → j < 32 → IsWithin (2 ^ 36) (entry columns.now j) }
+    ensures value { (i : ℕ) → i < 8 → entry result i ≡ part_sum 0 4 8 (entry columns.now) i }
+    ensures small { (i : ℕ) → i < 8 → IsWithin (2 ^ 54) (entry result i) }
+{
+    let mut sums = [0i64; 8];
+    for i in 0..4 {
+        let first = part(columns, i, 0, 8, 4);
+        let second = part(columns, i, 4, 8, 4);
+        sums[i] = first + second;
+        sums[7 - i] = first - second;
+    }
+    sums
+}
+
 // The sums of the 16 even folded columns, for the lower 16 subbands.
 //
 // They fold once more: subband 15 - i has the products of subband i, every other one with the other
@@ -37,12 +57,12 @@ fn even_sums(columns: &[i64; 32]) -> [i64; 16]
     ensures value { (i : ℕ) → i < 16 → entry result i ≡ part_sum 0 2 16 (entry columns.now) i }
     ensures small { (i : ℕ) → i < 16 → IsWithin (2 ^ 55) (entry result i) }
 {
+    let fourth = fourth_sums(columns);
     let mut sums = [0i64; 16];
     for i in 0..8 {
-        let first = part(columns, i, 0, 4, 8);
         let second = part(columns, i, 2, 4, 8);
-        sums[i] = first + second;
-        sums[15 - i] = first - second;
+        sums[i] = fourth[i] + second;
+        sums[15 - i] = fourth[i] - second;
     }
     sums
 }
@@ -75,8 +95,9 @@ fn set_opposite(columns: &[i64; 32], even: &[i64; 16], i: usize, out: &mut [i32;
 
 // The slots of the 32 subbands of 32 folded columns.
 //
-// Each pair of subbands has a line of its own: so the cosines stand in the instructions, and none of
-// them is loaded.
+// Each pair of subbands has a line of its own: so the cosines stand in the instructions, and none
+// of them is loaded.
+#[inline(never)]
 fn slots_of_folded(columns: &[i64; 32], out: &mut [i32; 32])
     requires { (j : ℕ) → j < 32 → IsWithin (2 ^ 36) (entry columns.now j) }
     ensures long { length out.new ≡ 32 }

@@ -63,5 +63,8 @@ static COLUMNS: [i64; 64] = [
 fn columns_folded(rt: HostRuntime) {
     let mut u = [0i64; 32];
     fold64(&COLUMNS, &mut u);
-    assert_eq!(rt; (u[0], u[1], u[16], u[17], u[31]), (272, 546, 1056, -2910, -194));
+    assert_eq!(rt;
+        (u[0], u[1], u[16], u[17], u[31]),
+        (272, 546, 1056, -2910, -194)
+    );
 }

@@ -7,7 +7,5 @@ pub mod HighBlocks
 pub mod Codable
 pub mod BandLemmas
 pub mod FourThirds
-pub mod LimitLemmas
 pub mod PeakLemmas
-pub mod CutLemmas
 pub mod ValueLemmas

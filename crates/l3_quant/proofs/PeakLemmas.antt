@@ -1,6 +1,6 @@
 -- The greatest values of bands.
 use Rattle.std.proofs.Common.{◌≡◌, ℕ, zero, suc, ◌+◌, ◌-◌, ◌*◌, ◌<◌, ◌≤◌, ◌^◌, Bool, true, false, List, length, get_or, set, take, drop, leb, ℤ, pos, arith, refl, sym, subst, ap, ◌∙◌, inl, inr}
-use Rattle.std.specs.Prelude.{All, Any, slice_range, unsigned_abs}
+use Rattle.std.specs.Prelude.{All, slice_range, unsigned_abs}
 use Rattle.std.specs.List.{list_all}
 use Rattle.std.proofs.Math.ListN.{length-set}
 use Rattle.std.proofs.Math.Seq.{take-add, take-length}
@@ -12,14 +12,14 @@ use Rattle.l3_base.specs.declared.rate.SampleRate.{SampleRate}
 use Rattle.l3_base.specs.Amp.{no_amp}
 use Rattle.l3_base.specs.Rates.{hertz_index_of}
 use Rattle.l3_tables.specs.Bands.{edge_at, band_edges}
-use Rattle.l3_tables.specs.Peaks.{AreBandPeaks, IsPeak}
+use Rattle.l3_tables.specs.Peaks.{IsPeak}
 use Rattle.l3_tables.proofs.Edges.{edge_first, edge_last, edge_rises, index_small}
 use Rattle.l3_tables.proofs.ListLemmas.{filled_more}
-use Rattle.l3_quant.specs.Quantiser.{IsCodable, is_codable, magnitude, magnitude_at, quantised_lines, steps_of}
+use Rattle.l3_quant.specs.Quantiser.{is_codable, magnitude, magnitude_at, quantised_lines, steps_of}
 use Rattle.l3_quant.specs.Amplified.{band_gain, quantised_bands}
 use Rattle.l3_quant.specs.Gains.{first_gain_of}
 use Rattle.l3_quant.specs.Magnitudes.{AreLinePeaks}
-use Rattle.l3_quant.proofs.Codable.{all_at_most, codable_is_tested, list_all-quantised, magnitude_at-rises, magnitude_at-steps, magnitude_at-zero, one_above, steps_of-band, steps_of-pos}
+use Rattle.l3_quant.proofs.Codable.{all_at_most, list_all-quantised, magnitude_at-rises, magnitude_at-steps, magnitude_at-zero, steps_of-band, steps_of-pos}
 use Rattle.l3_quant.proofs.BandLemmas.{first_gain_of-is, one_gain_without_amp, quantised_bands-band, quantised_bands-long}
 
 -- ---- a test of all
@@ -160,30 +160,6 @@ line_peaks_are frequency rate lines spec peaks long same index so_far =
       peaks_are = all.value;
     }
 
--- so many bands have their quantised peaks, and none of them is above 8191
-pub record PeaksSoFar (amp : List ℕ) (gain : ℕ) (lines : List ℕ) (bands : ℕ) (out : List ℕ) : Type 0 where
-  pub long : length out ≡ 22
-  pub value : (b : ℕ) → b < bands →
-      get_or out b 0 ≡ magnitude_at (get_or lines b 0) (steps_of (band_gain amp (pos gain) b))
-  pub bound : (b : ℕ) → b < bands → get_or out b 0 ≤ 8191
-
-pub no_peaks : (amp : List ℕ) (gain : ℕ) (lines out : List ℕ) → length out ≡ 22 →
-    PeaksSoFar amp gain lines 0 out
-no_peaks amp gain lines out long =
-    record { long = long; value = λ b lt. absurd (omega arith); bound = λ b lt. absurd (omega arith) }
-
-pub peaks_more : (amp : List ℕ) (gain : ℕ) (lines : List ℕ) (band : ℕ) (out : List ℕ) (n : ℕ) →
-    band < 22 →
-    PeaksSoFar amp gain lines band out → n ≤ 8191 →
-    n ≡ magnitude_at (get_or lines band 0) (steps_of (band_gain amp (pos gain) band)) →
-    PeaksSoFar amp gain lines (band + 1) (set out band n)
-peaks_more amp gain lines band out n lt before bound is = record {
-  long = length-set out band n ∙ before.long;
-  value = filled_more (λ b m. m ≡ magnitude_at (get_or lines b 0) (steps_of (band_gain amp (pos gain) b)))
-      out band n 0 (omega (arith, before.long)) before.value is;
-  bound = filled_more (λ _ m. m ≤ 8191) out band n 0 (omega (arith, before.long)) before.bound bound;
-}
-
 -- what passes in each of the bands passes in all lines
 pub bands_cover : (p : ℤ → Bool) (rate : ℕ) (xs : List ℤ) → rate < 3 → length xs ≡ 576 →
     ((b : ℕ) → b < 22 →
@@ -196,16 +172,6 @@ bands_cover p rate xs small long each =
     fronts : (k : ℕ) → k ≤ 22 → list_all p (take (edge_at rate k) xs) ≡ true
     fronts zero le = rw (edge_first rate small) refl
     fronts (suc k) le = let next : suc k ≡ k + 1 = omega arith in rw next (front_more p xs (edge_at rate k) (edge_at rate (k + 1)) (omega (arith, edge_rises rate k small (omega arith))) (fronts k (omega arith)) (each k (omega arith)))
-
--- the words of the contract
-pub peaks_are : (amp : List ℕ) (gain : ℕ) (lines out : List ℕ) → PeaksSoFar amp gain lines 22 out →
-    (rate : SampleRate) (spec : List ℤ) → AreLinePeaks (band_edges rate) spec lines →
-    AreBandPeaks (band_edges rate) (quantised_bands (band_edges rate) amp (pos gain) spec) out
-unfolding edge_at
-peaks_are amp gain lines out peaks rate spec are b lt =
-    let index = hertz_index_of rate in
-    let P : ℕ → Type 0 = IsPeak (slice_range (quantised_bands (band_edges rate) amp (pos gain) spec) (edge_at index b) (edge_at index (b + 1))) in
-    subst P (sym (peaks.value b lt)) (band_peak rate amp (pos gain) spec lines b lt are)
 
 -- where each band's peak can be coded the spectrum can
 pub bands_codable : (amp : List ℕ) (gain : ℕ) (peaks : List ℕ) →
@@ -230,22 +196,6 @@ band_above amp gain band peaks lt above rate spec are =
     slice-fails (λ x. leb (unsigned_abs x) 8191) q (edge_at index band) (edge_at index (band + 1))
     (omega (arith, edge_rises index band (index_small rate) lt))
     (band_peak rate amp (pos gain) spec peaks band lt are 8191 ∙ lt-leb _ 8191 above)
-
-pub peaks_codable : (amp : List ℕ) (gain : ℕ) (lines out : List ℕ) →
-    PeaksSoFar amp gain lines 22 out →
-    (rate : SampleRate) (spec : List ℤ) → AreLinePeaks (band_edges rate) spec lines →
-    IsCodable (quantised_bands (band_edges rate) amp (pos gain) spec)
-peaks_codable amp gain lines out peaks rate spec are =
-    (codable_is_tested (quantised_bands (band_edges rate) amp (pos gain) spec)).0
-    (bands_codable amp gain lines (λ b lt. omega (arith, peaks.value b lt, peaks.bound b lt)) rate spec are)
-
-pub peak_above : (amp : List ℕ) (gain band : ℕ) (lines : List ℕ) → band < 22 →
-    8191 < magnitude_at (get_or lines band 0) (steps_of (band_gain amp (pos gain) band)) →
-    (rate : SampleRate) (spec : List ℤ) → AreLinePeaks (band_edges rate) spec lines →
-    Any (λ q. 8191 < unsigned_abs q) (quantised_bands (band_edges rate) amp (pos gain) spec)
-peak_above amp gain band lines lt above rate spec are =
-    one_above unsigned_abs 8191 (quantised_bands (band_edges rate) amp (pos gain) spec)
-    (band_above amp gain band lines lt above rate spec are)
 
 -- ---- the first gain
 

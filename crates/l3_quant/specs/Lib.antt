@@ -6,6 +6,5 @@ pub mod Amplified
 pub mod Gains
 pub mod Thresholds
 pub mod Magnitudes
-pub mod Limits
 pub mod Values
 pub mod Reconstruction

@@ -1,9 +1,7 @@
 ghost use Rattle.std.specs.Prelude.{◌<◌, ◌≤ℤ◌, pos, negsuc};
 
 use crate::plain::plain_line;
-use crate::{
-    all, all_amp, band_peaks, cut_values, first_gain, first_gain_amp, line, line_peaks, reconstruct,
-};
+use crate::{all, all_amp, first_gain, first_gain_amp, line, line_peaks, reconstruct};
 use l3_base::{Amp, SampleRate, Spectrum};
 use l3_tables::edge;
 
@@ -116,52 +114,13 @@ fn thresholds_and_halving_agree(rt: HostRuntime) {
     }
 }
 
-fn no_cuts() -> [u8; 576] {
-    [0; 576]
-}
-
-fn no_peaks() -> [u16; 22] {
-    [0; 22]
-}
-
 #[test]
-fn cuts_and_peaks(rt: HostRuntime) {
-    let cases = [
-        (16777216, 210, 1),
-        (268435456, 210, 8),
-        (16777216, 0, 15),
-        (536870911, 255, 0),
-        (8376320, 210, 1),
-        (8376319, 210, 0),
-    ];
-    let amp = Amp::zero();
-    let mut cut = no_cuts();
-    let mut peaks = no_peaks();
-    for (x, gain, value) in cases {
-        let mut spec = Spectrum::zero();
-        spec.set(575, x);
-        spec.set(23, -x);
-        cut_values(&spec, SampleRate::Hz44100, &amp, gain, &mut cut);
-        assert_eq!(rt;
-            (cut[22], cut[23], cut[575]),
-            (0, value, value),
-            "at {x}, {gain}"
-        );
-        let lines = line_peaks(&spec, SampleRate::Hz44100);
-        assert_eq!(rt;
-            (lines[4], lines[5], lines[21]),
-            (0, x.unsigned_abs(), x.unsigned_abs())
-        );
-        let coded = band_peaks(&lines, &amp, gain, &mut peaks);
-        assert_eq!(rt; coded, gain > 0, "at {x}, {gain}");
-        if coded {
-            assert_eq!(rt;
-                (peaks[4], peaks[5], peaks[21]),
-                (0, u16::from(value), u16::from(value)),
-                "at {x}, {gain}"
-            );
-        }
-    }
+fn greatest_lines(rt: HostRuntime) {
+    let mut spec = Spectrum::zero();
+    spec.set(575, 16777216);
+    spec.set(23, -16777216);
+    let lines = line_peaks(&spec, SampleRate::Hz44100);
+    assert_eq!(rt; (lines[4], lines[5], lines[21]), (0, 16777216, 16777216));
 }
 
 // The gain of a line: that of the band whose edges it lies between.
@@ -178,18 +137,15 @@ fn line_gain(amp: &Amp, rate: SampleRate, gain: u8, line: usize) -> i16
     i16::from(gain)
 }
 
-// Whether `all_amp` and `cut_values` give what the plain program does line by line.
+// Whether `all_amp` gives what the plain program does line by line.
 fn values_agree(spec: &Spectrum, rate: SampleRate, amp: &Amp, gain: u8) -> bool {
     let mut out = no_values();
-    let mut cut = no_cuts();
     let whole = all_amp(spec, rate, amp, gain, &mut out);
-    cut_values(spec, rate, amp, gain, &mut cut);
     let mut coded = true;
     let mut same = true;
     let lines = spec.lines();
     for i in 0..576 {
         let plain = plain_line(lines[i], line_gain(amp, rate, gain, i));
-        same = same && u16::from(cut[i]) == plain.unwrap_or(15).min(15);
         match plain {
             None => coded = false,
             Some(n) => {
@@ -202,25 +158,6 @@ fn values_agree(spec: &Spectrum, rate: SampleRate, amp: &Amp, gain: u8) -> bool 
         }
     }
     same && whole == coded
-}
-
-// Whether `band_peaks` gives the greatest value that the plain program has in each band.
-fn peaks_agree(spec: &Spectrum, rate: SampleRate, amp: &Amp, gain: u8) -> bool {
-    let mut peaks = no_peaks();
-    let whole = band_peaks(&line_peaks(spec, rate), amp, gain, &mut peaks);
-    let mut greatest = 0;
-    let mut same = true;
-    let lines = spec.lines();
-    let index = rate.index();
-    for band in 0..22 {
-        let mut peak = 0;
-        for i in usize::from(edge(index, band))..usize::from(edge(index, band + 1)) {
-            peak = peak.max(plain_line(lines[i], line_gain(amp, rate, gain, i)).unwrap_or(8192));
-        }
-        greatest = peak.max(greatest);
-        same = same && (!whole || peaks[band] == peak);
-    }
-    same && whole == (greatest < 8192)
 }
 
 // Amplifications of 0 to 3 in turn, so many bands each.
@@ -247,7 +184,6 @@ fn amplified_values_and_halving_agree(rt: HostRuntime) {
             let amp = amplified(bands);
             for gain in [0, 130, 147, 160, 181, 223, 255] {
                 assert!(rt; values_agree(&spec, rate, &amp, gain), "at {bands}, {gain}");
-                assert!(rt; peaks_agree(&spec, rate, &amp, gain), "at {bands}, {gain}");
             }
         }
     }

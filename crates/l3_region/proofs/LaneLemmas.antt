@@ -1,9 +1,9 @@
 -- Steps of the words for lanes.
-use Rattle.std.proofs.Common.{◌≡◌, ℕ, zero, suc, ◌+◌, ◌-◌, ◌*◌, ◌<◌, ◌≤◌, List, [], get_or, cond, leb, true, refl, sym, ap, ◌∙◌, arith, inl, inr, add-one}
+use Rattle.std.proofs.Common.{◌≡◌, ℕ, zero, suc, ◌+◌, ◌-◌, ◌*◌, ◌<◌, ◌≤◌, List, get_or, cond, leb, true, refl, ap, ◌∙◌, arith, inl, inr, add-one}
 use Rattle.std.specs.Prelude.{ℤ, min, max}
 use Rattle.std.proofs.lemmas.Bool.{cases_lt, le-leb, lt-ltb, le-ltb}
 use Rattle.l3_tables.specs.Lists.{entry}
-use Rattle.l3_region.specs.Lanes.{AreSums, IsFirstLane, LinbitsGrow, lane_class, mask_at, least_below, class_from, lane_cost, lane_sum, range_cost, row_at, place_of}
+use Rattle.l3_region.specs.Lanes.{IsFirstLane, LinbitsGrow, lane_class, mask_at, least_below, class_from, lane_cost, lane_sum, row_at, place_of}
 use Rattle.l3_region.proofs.Tables.{mask_is, mask_linbits, mask_none, row_rises, row_small, row_zero}
 
 -- ---- the least
@@ -142,15 +142,6 @@ least_below-front f n (suc m) le =
     let more : n + suc m ≡ n + m + 1 = omega arith in
     omega (arith, ap (least_below f) more, least_below-more f (n + m), least_below-front f n m (λ j from lt. le j from (omega arith)), le (n + m) (omega arith) (omega arith))
 
--- sixteen lanes are enough where a table without linbits holds the values
-pub least_of_short : (low high : List ℕ) (class : ℕ) → class < 6 → LinbitsGrow low high → ((k : ℕ) → k < 24 → get_or low k 0 ≤ get_or high k 0) →
-    least_below (lane_cost low high class) 16 ≡ least_below (lane_cost low high class) 24
-unfolding LinbitsGrow
-least_of_short low high class small grow rising =
-    let f = lane_cost low high class in
-    sym (least_below-front f 16 8 (λ j from lt.
-    omega (arith, least_below-lower f 16 12 (omega arith), mask_none class 12 small (omega arith) (omega arith), mask_none class j small (omega arith) (omega arith), grow 12 j (omega arith) (omega arith) (omega arith), rising 12 (omega arith), rising j (omega arith))))
-
 -- the lane of the class is the first one of least cost where only tables with linbits hold the
 -- values
 pub first_of_long : (low high : List ℕ) (class : ℕ) → 6 ≤ class → class < 14 → LinbitsGrow low high → ((k : ℕ) → k < 24 → get_or low k 0 ≤ get_or high k 0) → ((k : ℕ) → k < 24 → get_or high k 0 ≤ 9216) →
@@ -170,15 +161,6 @@ first_of_long low high class from to grow rising small =
         first = λ j before. omega (arith, here, over j before, small lane (omega arith));
       },
     )
-
--- it is the cheapest one
-pub least_of_long : (low high : List ℕ) (class : ℕ) → 6 ≤ class → class < 14 → LinbitsGrow low high → ((k : ℕ) → k < 24 → get_or low k 0 ≤ get_or high k 0) → ((k : ℕ) → k < 24 → get_or high k 0 ≤ 9216) →
-    get_or high (class + 6) 0 - get_or low (class + 6) 0 ≡ least_below (lane_cost low high class) 24
-least_of_long low high class from to grow rising small =
-    let first = first_of_long low high class from to grow rising small in
-    let lane = class + 6 in
-    let least = least_below-is (lane_cost low high class) 24 lane first.1.below (omega (arith, first.0, small lane (omega arith))) first.1.least in
-    omega (arith, first.0, least)
 
 -- thirteen lanes are enough for the first one where a table without linbits holds the values
 pub first_of_short : (low high : List ℕ) (class r : ℕ) → class < 6 → LinbitsGrow low high → ((k : ℕ) → k < 24 → get_or low k 0 ≤ get_or high k 0) →
@@ -210,17 +192,3 @@ first_of_zeros low high none =
     record { below = omega arith; least = λ j lt. omega (arith, mask, none); first = λ j lt. absurd (omega (arith, lt)) }
 
 -- ---- floors
-
-pub range_cost-small : (rows : List (List ℕ)) (classes : List ℕ) (i n : ℕ) → range_cost rows classes i n ≤ 65535
-unfolding range_cost
-range_cost-small rows classes i n = least_below-le (lane_cost (get_or rows i []) (get_or rows (i + n) []) (class_from classes i n)) 24
-
--- zeros cost nothing
-pub range_cost-zero : (rows : List (List ℕ)) (classes : List ℕ) (i n : ℕ) → AreSums rows classes → i + n ≤ 22 → class_from classes i n ≡ 0 → range_cost rows classes i n ≡ 0
-unfolding range_cost
-range_cost-zero rows classes i n is le none =
-    let class = class_from classes i n in
-    let f = lane_cost (get_or rows i []) (get_or rows (i + n) []) class in
-    let low : leb class (lane_class 0) ≡ true = le-leb class (lane_class 0) (omega (arith, none)) in
-    let mask : mask_at class 0 ≡ 0 = mask_is class 0 (omega (arith, none)) (omega arith) ∙ ap (λ t. cond t 0 16384) low in
-    omega (arith, least_below-lower f 24 0 (omega arith), mask, is.zero_bits (i + n) le)

@@ -61,12 +61,6 @@ mask_first class lt = eqb-true _ _ (agree_below_at (λ c. eqb (mask_at c (first_
 
 -- ---- masks and classes
 
-pub mask_small : (class k : ℕ) → class < 14 → k < 24 → mask_at class k ≤ 16384
-unfolding mask_at lane_class
-mask_small class k a b =
-    leb-true _ _ (agree_below_at (λ j. leb (mask_at class j) 16384) (λ _. true) 24 k
-    (agree_below_at (λ p. agree_below (λ j. leb (mask_at p j) 16384) (λ _. true) 24) (λ _. true) 14 class refl a) b)
-
 -- a lane costs more exactly where its class is below the values'
 pub mask_is : (class k : ℕ) → class < 14 → k < 24 → mask_at class k ≡ cond (leb class (lane_class k)) 0 16384
 unfolding mask_at

@@ -21,7 +21,7 @@ mod sums;
 
 pub use l3_huff::QuadTable;
 pub use laws::fewest_bits;
-pub use regions::{Regions, best, best_of_cut, best_of_pairs};
+pub use regions::{Regions, best, best_of_pairs};
 pub use split::{Split, split_of, split_of_pairs};
 
 #[cfg(test)]

@@ -1,7 +1,6 @@
 ghost use Rattle.std.specs.Prelude.{◌≡◌, ℤ, List, ◌≤◌, ◌<◌, ◌+◌, ◌*◌, ℕ, All, length, replicate, slice_index, unsigned_abs};
 ghost use Rattle.l3_tables.specs.Bands.{band_edges};
 ghost use Rattle.l3_region.specs.Split.{split_of};
-ghost use Rattle.l3_region.specs.Cut.{AreCutOf};
 ghost use Rattle.l3_region.specs.Pairs.{ArePairsOf};
 ghost use Rattle.l3_region.specs.Regions.{regions_of};
 ghost use Rattle.l3_region.specs.Laws.{HoldsAll, region};
@@ -11,7 +10,7 @@ use crate::cut::{cut_of, peaks_of};
 use crate::lanes::{band_classes, no_classes};
 use crate::pairs::pairs_of;
 use crate::quads::best_quads;
-use crate::split::{Split, split_in};
+use crate::split::Split;
 use crate::sums::{Sums, sum_bands};
 use l3_base::SampleRate;
 use l3_huff::QuadTable;
@@ -81,27 +80,6 @@ pub fn best_of_pairs(
         quad: quads.table,
         bits: pair.bits + quads.bits,
     }
-}
-
-/// The split, and the regions and tables that take the fewest bits, of values that are known by
-/// their absolute values cut at 15 and by the greatest one of each band.
-///
-/// It is what `split_of` and `best` give for the values themselves. Errors: none.
-pub fn best_of_cut(cut: &[u8; 576], peaks: &[u16; 22], rate: SampleRate) -> (Split, Regions)
-    requires { (q : List ℤ) × AreCutOf (band_edges rate) q cut.now peaks.now }
-    ensures value { (q : List ℤ) → AreCutOf (band_edges rate) q cut.now peaks.now → (result.0 ≡ split_of q) × (result.1 ≡ regions_of (band_edges rate) q) }
-    ensures places { 2 * result.0.big + 4 * result.0.quads ≤ 576 }
-    ensures limit { result.1.bits ≤ 9216 }
-    ensures first { result.1.region0 ≤ 15 }
-    ensures second { result.1.region1 ≤ 7 }
-    ensures within { result.1.region0 + result.1.region1 + 2 ≤ 22 }
-    ensures three { length result.1.tables ≡ 3 }
-    ensures held { (q : List ℤ) → AreCutOf (band_edges rate) q cut.now peaks.now → (r : ℕ) → r < 3 → HoldsAll (slice_index result.1.tables r) (region (band_edges rate) q result.1.region0 result.1.region1 r) }
-{
-    let pairs = pairs_of(cut);
-    let split = split_in(&pairs);
-    let regions = best_of_pairs(&pairs, &band_classes(peaks), split, rate);
-    (split, regions)
 }
 
 /// The regions and tables that take the fewest bits, for values of at most 8191 in absolute value.

@@ -106,31 +106,47 @@ fn part_class(part: &[u8], whole: u16) -> u16
     }
 }
 
-// The class of a band's values before the line where the pairs end.
+// The class of a band, and 0 after the last one.
 #[inline(always)]
-fn band_class(
-    pairs: &[u8; 288],
-    classes: &[u8; 32],
-    rate: usize,
-    end: usize,
-    band: usize,
-    from: usize,
-) -> u16
+fn class_or_none(band: usize, class: u8) -> u16
+    ensures own { band < 22 → result ≡ class }
+    ensures none { 22 ≤ band → result ≡ 0 }
+{
+    if band < 22 { u16::from(class) } else { 0 }
+}
+
+// The classes of the whole bands, and 0 after the last one.
+#[inline(always)]
+fn whole_classes(classes: &[u8; 32]) -> Classes
+    ensures own { (b : ℕ) → b < 22 → slice_index result b ≡ slice_index classes.now b }
+    ensures none { (b : ℕ) → 22 ≤ b → b < 32 → slice_index result b ≡ 0 }
+    ensures long { length result ≡ 32 }
+{
+    let mut own = no_classes();
+    for b in 0..32 {
+        own[b] = class_or_none(b, classes[b]);
+    }
+    own
+}
+
+// The class of each band's values before the line where the pairs end.
+fn part_classes(pairs: &[u8; 288], classes: &[u8; 32], rate: usize, end: usize) -> Classes
     requires rate { rate < 3 }
-    requires band { band < 22 }
     requires within { end ≤ 576 }
-    requires from { from ≡ min (edge_at rate band) end }
     requires ends { end ≡ end_of_pairs (lines_in pairs.now) }
     requires known { (q : List ℤ) × ArePairsOf (edges_at rate) q pairs.now classes.now }
-    ensures value { IsBandClass pairs.now classes.now rate end band result }
-    ensures small { result < 14 }
+    ensures value { (b : ℕ) → b < 22 → IsBandClass pairs.now classes.now rate end b (slice_index result b) }
+    ensures few { (b : ℕ) → slice_index result b < 14 }
+    ensures long { length result ≡ 32 }
 {
-    let whole = u16::from(classes[band]);
-    if usize::from(edge(rate, band + 1)) <= end {
-        whole
-    } else {
-        part_class(&pairs[from / 2..end / 2], whole)
+    let mut own = whole_classes(classes);
+    let mut band = 22usize;
+    while band > 0 && usize::from(edge(rate, band)) > end {
+        band -= 1;
+        let from = usize::from(edge(rate, band)).min(end);
+        own[band] = part_class(&pairs[from / 2..end / 2], own[band]);
     }
+    own
 }
 
 // Writes the sums up to each band and the class of each band, all cut at the line where the pairs
@@ -156,11 +172,9 @@ pub(crate) fn sum_bands(
     ensures few { (b : ℕ) → slice_index parts.new b < 14 }
 {
     let mut sum = no_bits();
-    let mut own = no_classes();
     let mut from = 0usize;
     for band in 0..22usize {
         put(sums, band, &sum);
-        own[band] = band_class(pairs, classes, rate, end, band, from);
         let to = usize::from(edge(rate, band + 1)).min(end);
         add_pairs(pairs, from / 2, to / 2, &mut sum);
         from = to;
@@ -168,5 +182,5 @@ pub(crate) fn sum_bands(
     put(sums, 22, &sum);
     put(sums, 23, &sum);
     put(sums, 24, &sum);
-    *parts = own;
+    *parts = part_classes(pairs, classes, rate, end);
 }

@@ -1,4 +1,4 @@
-ghost use Rattle.std.specs.Prelude.{◌≡◌, ◌≤◌, ◌<◌, ◌+◌, All, Some, true, false};
+ghost use Rattle.std.specs.Prelude.{◌≡◌, ◌≤◌, ◌<◌, ◌+◌, ℕ, All, Some, true, false, slice_index};
 ghost use Rattle.l3_base.specs.Amp.{IsAmp};
 ghost use Rattle.l3_base.specs.Spectrum.{IsLine};
 ghost use Rattle.l3_quant.specs.Gains.{first_gain_of};
@@ -10,7 +10,7 @@ ghost use Rattle.l3_count.specs.Memo.{IsLaneOf, lane_of};
 ghost use Rattle.l3_search.specs.Gain.{HasLaneTo, IsLeastWithin, lacking, picked, picked_gain, tried_of};
 
 use l3_base::{Amp, SampleRate, Spectrum, Steps};
-use l3_count::{Count, Memo, count_over};
+use l3_count::{Count, Memo, count_over, count_zeros};
 use l3_planes::{Planes, no_planes, set};
 use l3_quant::{first_gain_with, line_peaks};
 use std::sync::ledger::Ledger;
@@ -56,6 +56,44 @@ fn prepare(spec: &Spectrum, peaks: &[u32; 22], rate: SampleRate, prepared: &mut 
     }
 }
 
+// Whether the greatest line of each band is 0.
+#[inline(always)]
+fn is_silent(peaks: &[u32; 22]) -> bool
+    ensures { result ≡ true → (b : ℕ) → b < 22 → slice_index peaks.now b ≡ 0 }
+{
+    for band in 0..22 {
+        if peaks[band] > 0 {
+            return false;
+        }
+    }
+    true
+}
+
+// Makes the count at a gain that is no less than the first one; that of zeros needs no planes.
+#[inline(always)]
+fn count<L: Ledger + Send>(
+    spec: &Spectrum,
+    peaks: &[u32; 22],
+    rate: SampleRate,
+    amp: &Amp,
+    gain: u8,
+    prepared: &mut Prepared,
+    steps: &mut Steps<L>,
+) -> Count
+    requires peaks { AreLinePeaks (band_edges rate) spec.now peaks.now }
+    requires first { first_gain_of (band_edges rate) amp.now spec.now ≤ gain }
+    requires own { prepared.old.made ≡ true → ArePlanesOf (band_edges rate) spec.now prepared.old.planes }
+    ensures own { prepared.new.made ≡ true → ArePlanesOf (band_edges rate) spec.now prepared.new.planes }
+    ensures count { count_of (band_edges rate) amp.now spec.now gain ≡ Some result }
+    ensures ticks { steps.new ≡ steps.old + 1 }
+{
+    if is_silent(peaks) {
+        return count_zeros(rate, amp, gain, steps);
+    }
+    prepare(spec, peaks, rate, prepared);
+    count_over(&prepared.planes, rate, amp, gain, steps)
+}
+
 // The first gain of a spectrum, whose greatest line of each band is known.
 #[inline(always)]
 fn start(spec: &Spectrum, peaks: &[u32; 22], rate: SampleRate, amp: &Amp) -> u8
@@ -95,8 +133,7 @@ fn make<L: Ledger + Send>(
     ensures memo { HasLaneTo (band_edges rate) amp.now spec.now lane gain gain memo.old memo.new }
     ensures kept { IsLaneOf (band_edges rate) spec.now (lane_of memo.new lane) }
 {
-    prepare(spec, peaks, rate, prepared);
-    let count = count_over(&prepared.planes, rate, amp, gain, steps);
+    let count = count(spec, peaks, rate, amp, gain, prepared, steps);
     memo.put(lane, count);
     count
 }

@@ -1,9 +1,11 @@
 -- What an ending says of the input and the output of a command.
-use Rattle.std.specs.Prelude.{◌≡◌, ◌≢◌, ℕ, List, [], Option, Some, None, Err, IfSome, IsSomeAnd, ◌⊎◌, ⊤}
+use Rattle.std.specs.Prelude.{◌≡◌, ◌≢◌, ℕ, ◌+◌, Bool, true, false, List, [], Option, Some, None, Err, IfSome, IsSomeAnd, ◌⊎◌, ⊤}
 use Rattle.l3_io.specs.Causes.{IsSteady, count_after}
 use Rattle.l3_io.specs.Taken.{Takes, TakesPrefix}
 use Rattle.l3_encoder.specs.Changes.{SourceChange, SinkChange}
-use Rattle.l3_encoder.specs.Encoded.{encoding_in, rest_in, IsAccepted, HasReadSome}
+use Rattle.l3_base.specs.declared.rate.Rate.{Rate}
+use Rattle.l3_commit.specs.declared.report.Report.{Report}
+use Rattle.l3_encoder.specs.Encoded.{encoding_in, rest_in, frame_number_in, gains_in, IsAccepted, IsReport, HasReadSome}
 use Rattle.l3_reader.specs.InTurn.{HasStopped}
 use Rattle.l3_stream.specs.declared.fault.StreamFault.TheVariants as stream
 use Rattle.l3_wav.specs.declared.fault.WavFault.{WavFault}
@@ -18,7 +20,7 @@ use Rattle.mp3enc.specs.declared.process.NoWords.TheVariants as no_words
 use Rattle.mp3enc.specs.declared.words.Command.{Command}
 use Rattle.mp3enc.specs.declared.words.Command.TheVariants.{Encode, Check}
 use Rattle.mp3enc.specs.Check.{frames_limit, line_in, deviation_in}
-use Rattle.mp3enc.specs.Status.{exit_number, refusal_of, status_of, text_of}
+use Rattle.mp3enc.specs.Status.{exit_number, refusal_of, reused_of, statistics_line, status_of, text_of}
 
 -- the head of the file is refused, with this status
 abbrev pub IsRefused : Status → List ℕ → Type 0
@@ -27,31 +29,37 @@ IsRefused s bytes = (why : WavFault) × (wav_of bytes ≡ Err why) × (refusal_o
 -- what a command makes of a file: its encoding, or the line of a stream; nothing of a file that it
 -- refuses
 abbrev pub output_of : Command → List ℕ → Option (List ℕ)
-output_of (Encode rate) bytes = encoding_in rate bytes
+output_of (Encode words) bytes = encoding_in words.options.rate bytes
 output_of Check bytes = line_in bytes
 
 -- what it leaves of a file that it takes: what follows the data, or nothing
 abbrev pub rest_of : Command → List ℕ → List ℕ
-rest_of (Encode rate) bytes = rest_in bytes
+rest_of (Encode words) bytes = rest_in bytes
 rest_of Check bytes = []
 
 -- it encodes
 abbrev pub Encodes : Command → Type 0
-Encodes (Encode rate) = ⊤
+Encodes (Encode words) = ⊤
 Encodes Check = ⊥
 
 -- what is left where a read failed: of head and data some is gone, or some whole frames and less
 -- than one more
 abbrev pub LeavesMidway : Command → List ℕ → Option (List ℕ) → Type 0
-LeavesMidway (Encode rate) bytes now = HasReadSome bytes now
+LeavesMidway (Encode words) bytes now = HasReadSome bytes now
 LeavesMidway Check bytes now = HasStopped frames_limit bytes stream.Read now
+
+-- what is left where there was no memory: of head and data some is gone; a command that needs none
+-- for them has read nothing
+abbrev pub LeavesUnread : Command → List ℕ → Option (List ℕ) → Type 0
+LeavesUnread (Encode words) bytes now = HasReadSome bytes now
+LeavesUnread Check bytes now = now ≡ Some bytes
 
 -- what a command leaves of a file, by its status: of a refused head what follows the bytes that
 -- refuse it; of a stream that deviates what follows the frame at which it does, or its header where
 -- that alone tells
 abbrev pub Leaves : Command → Status → List ℕ → Option (List ℕ) → Type 0
 Leaves command status.Ok bytes now = now ≡ Some (rest_of command bytes)
-Leaves command status.Memory bytes now = HasReadSome bytes now
+Leaves command status.Memory bytes now = LeavesUnread command bytes now
 Leaves command status.Usage bytes now = now ≡ Some bytes
 Leaves command status.BadWav bytes now = now ≡ Some (rest_in bytes)
 Leaves command status.Unsupported bytes now = now ≡ Some (rest_in bytes)
@@ -69,9 +77,33 @@ abbrev pub failed_writes_at : Ending → ℕ → ℕ
 failed_writes_at ending.WriteFault before = count_after before
 failed_writes_at other before = before
 
+-- the words ask for no statistics
+abbrev pub HasNoStatistics : Command → Type 0
+HasNoStatistics (Encode words) = words.stats ≡ false
+HasNoStatistics Check = ⊤
+
+-- the words ask for statistics, and these are the file's: on one thread each count is made, and
+-- none reused
+abbrev pub HasStatistics : Command → Report → SourceChange → Type 0
+HasStatistics (Encode words) report source = (words.stats ≡ true) × (report.made ≡ report.tried)
+    × (report.made + reused_of report ≡ report.tried)
+    × IfSome source.left (λ bytes. IsReport words.options.rate bytes report)
+HasStatistics Check report source = ⊥
+
+-- what notes are told of a file at success: statistics where they are asked for, and else nothing
+abbrev pub statistics_if : Bool → Rate → List ℕ → List ℕ
+statistics_if true rate bytes = statistics_line (frame_number_in bytes) (gains_in rate bytes) (gains_in rate bytes) 0
+statistics_if false rate bytes = []
+
+abbrev pub summary_of : Command → List ℕ → List ℕ
+summary_of (Encode words) bytes = statistics_if words.stats words.options.rate bytes
+summary_of Check bytes = []
+
 -- what an ending of a command says of the file and of the bytes that were written
 abbrev pub ExplainsEnding : Command → Ending → SourceChange → SinkChange → Type 0
-ExplainsEnding command ending.Done source sink = IfSome source.left (λ bytes.
+ExplainsEnding command ending.Done source sink = HasNoStatistics command × IfSome source.left (λ bytes.
+    IsSomeAnd (output_of command bytes) (λ output. Takes sink.taken sink.taken_now output))
+ExplainsEnding command (ending.Counted report) source sink = HasStatistics command report source × IfSome source.left (λ bytes.
     IsSomeAnd (output_of command bytes) (λ output. Takes sink.taken sink.taken_now output))
 ExplainsEnding command (ending.Refused why) source sink =
     Encodes command × IfSome source.left (λ bytes. wav_of bytes ≡ Err why) × (why ≢ fault.Read) × sink.untouched
@@ -100,7 +132,7 @@ abbrev pub Does : Option Command → SourceChange → SinkChange → Ending → 
 Does None source sink end = EndsUntouched ending.Usage source sink end
 Does (Some command) source sink end = Ends command end source sink
 
--- the same of the arguments of a process, where there may be no memory to take them as words
+-- the same where there may have been no memory to read the words
 abbrev pub DoesOrLacks : Option Command → SourceChange → SinkChange → Ending → Type 0
 DoesOrLacks asked source sink end = Does asked source sink end ⊎ EndsUntouched ending.Memory source sink end
 
@@ -113,7 +145,7 @@ MayCome asked status.Unsupported = IsSomeAnd asked Encodes
 MayCome asked status.BadStream = asked ≡ Some Check
 MayCome asked status.ReadFault = IsSomeAnd asked (λ command. ⊤)
 MayCome asked status.WriteFault = IsSomeAnd asked (λ command. ⊤)
-MayCome asked status.Memory = IsSomeAnd asked Encodes
+MayCome asked status.Memory = ⊤
 
 -- what notes are told of an ending: a front of its text, the whole of it where their count was
 -- steady

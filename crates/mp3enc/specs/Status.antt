@@ -1,5 +1,6 @@
 -- How a run ended: its status, the number and the text of it.
-use Rattle.std.specs.Prelude.{List, ℕ, [], ◌∷◌, ◌++◌, codes, decimal}
+use Rattle.std.specs.Prelude.{List, ℕ, ◌-◌, [], ◌∷◌, ◌++◌, codes, decimal}
+use Rattle.l3_commit.specs.declared.report.Report.{Report}
 use Rattle.l3_wav.specs.declared.fault.WavFault.{WavFault}
 use Rattle.l3_wav.specs.declared.fault.WavFault.TheVariants as fault
 use Rattle.l3_stream.specs.declared.fault.StreamFault.{StreamFault}
@@ -36,6 +37,7 @@ refusal_of fault.Read = status.ReadFault
 -- the status of an ending
 abbrev pub status_of : Ending → Status
 status_of ending.Done = status.Ok
+status_of (ending.Counted report) = status.Ok
 status_of ending.Usage = status.Usage
 status_of (ending.Refused why) = refusal_of why
 status_of (ending.Deviates fault) = status.BadStream
@@ -90,9 +92,20 @@ fault_place (stream.TooLong at) = at
 abbrev pub deviation_text : StreamFault → List ℕ
 deviation_text fault = codes "mp3enc: stream: " ++ name_of fault ++ codes " at " ++ decimal (fault_place fault) ++ 10 ∷ []
 
+-- the counts that were not made anew
+abbrev pub reused_of : Report → ℕ
+reused_of report = report.tried - report.made
+
+-- `frames F tried T made M reused R` and a newline, in decimal: the gains tried, how many of their
+-- counts were made, and how many were there already
+abbrev pub statistics_line : (frames tried made reused : ℕ) → List ℕ
+statistics_line frames tried made reused = codes "frames " ++ decimal frames ++ codes " tried " ++ decimal tried
+    ++ codes " made " ++ decimal made ++ codes " reused " ++ decimal reused ++ 10 ∷ []
+
 -- what notes are told
 abbrev pub text_of : Ending → List ℕ
 text_of ending.Done = []
+text_of (ending.Counted report) = statistics_line report.frames report.tried report.made (reused_of report)
 text_of ending.Usage = line (codes "mp3enc: usage: mp3enc encode, check or demo FRAMES SEED")
 text_of (ending.Refused why) = refusal_text why
 text_of (ending.Deviates fault) = deviation_text fault

@@ -1,11 +1,12 @@
 ghost use Rattle.std.specs.Prelude.{◌≡◌, ◌≤◌, length};
 ghost use Rattle.l3_encoder.specs.Changes.{sink_change};
 ghost use Rattle.mp3enc.specs.Program.{AreTold};
-ghost use Rattle.mp3enc.specs.Status.{refusal_of, refusal_text, name_of, fault_place, deviation_text, status_of};
+ghost use Rattle.mp3enc.specs.Status.{refusal_of, refusal_text, name_of, fault_place, deviation_text, reused_of, statistics_line, status_of};
 
 use crate::status::Status;
 use arrayvec::ArrayString;
 use itoa::Buffer;
+use l3_encoder::Report;
 use l3_io::{Sink, write_all};
 use l3_reader::StreamFault;
 use l3_wav::WavFault;
@@ -15,6 +16,8 @@ use l3_wav::WavFault;
 pub enum Ending {
     /// The command is done.
     Done,
+    /// A file is encoded, and statistics are told.
+    Counted(Report),
     /// The words are no command.
     Usage,
     /// The head of the WAV file is refused.
@@ -39,7 +42,7 @@ impl Ending {
         ensures { result ≡ status_of self }
     {
         match self {
-            Ending::Done => Status::Ok,
+            Ending::Done | Ending::Counted(_) => Status::Ok,
             Ending::Usage => Status::Usage,
             Ending::Refused(fault) => refusal(fault),
             Ending::Deviates(_) => Status::BadStream,
@@ -49,12 +52,13 @@ impl Ending {
         }
     }
 
-    /// The line that notes are told, empty at success.
-    pub fn text(self) -> ArrayString<64>
+    /// The line that notes are told, empty at success where no statistics are.
+    pub fn text(self) -> ArrayString<128>
         ensures { result.bytes ≡ text_of self }
     {
         match self {
             Ending::Done => ArrayString::new(),
+            Ending::Counted(report) => statistics(report),
             Ending::Usage => text("mp3enc: usage: mp3enc encode, check or demo FRAMES SEED\n"),
             Ending::Refused(fault) => text(refusal_line(fault)),
             Ending::Deviates(fault) => deviation_line(fault),
@@ -75,9 +79,9 @@ pub fn tell<N: Sink>(notes: &mut N, ending: Ending) -> Status
     ending.status()
 }
 
-// A text of at most 64 bytes.
-fn text(bytes: &str) -> ArrayString<64>
-    requires { length bytes.now ≤ 64 }
+// A text of at most 128 bytes.
+fn text(bytes: &str) -> ArrayString<128>
+    requires { length bytes.now ≤ 128 }
     ensures { result.bytes ≡ bytes.now }
 {
     let mut text = ArrayString::new();
@@ -158,8 +162,26 @@ fn place(fault: StreamFault) -> u64
     }
 }
 
+// The line of statistics.
+fn statistics(report: Report) -> ArrayString<128>
+    ensures { result.bytes ≡ statistics_line report.frames report.tried report.made (reused_of report) }
+{
+    let mut digits = Buffer::new();
+    let mut line = ArrayString::new();
+    line.push_str("frames ");
+    line.push_str(digits.format(report.frames));
+    line.push_str(" tried ");
+    line.push_str(digits.format(report.tried));
+    line.push_str(" made ");
+    line.push_str(digits.format(report.made));
+    line.push_str(" reused ");
+    line.push_str(digits.format(report.tried.saturating_sub(report.made)));
+    line.push_str("\n");
+    line
+}
+
 // The line of a stream that deviates.
-fn deviation_line(fault: StreamFault) -> ArrayString<64>
+fn deviation_line(fault: StreamFault) -> ArrayString<128>
     ensures { result.bytes ≡ deviation_text fault }
 {
     let mut digits = Buffer::new();

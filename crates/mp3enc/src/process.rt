@@ -4,7 +4,7 @@ ghost use Rattle.std.specs.Prelude.{◌≡◌, IfErr, IfOk, drop, map, string_by
 ghost use Rattle.std.specs.Process.{exit_status};
 ghost use Rattle.l3_encoder.specs.Changes.{sink_change, source_change};
 ghost use Rattle.mp3enc.specs.Program.{DoesOrLacks, EndsUntouched, HasExited, HasRun, ending_without};
-ghost use Rattle.mp3enc.specs.Words.{command_of};
+ghost use Rattle.mp3enc.specs.Words.{command_in};
 
 use crate::ending::{Ending, tell};
 use crate::program::run_alone;
@@ -57,7 +57,7 @@ fn run_arguments<S: Source, K: Sink, N: Sink>(
     sink: &mut K,
     notes: &mut N,
 ) -> Status
-    ensures { HasRun (DoesOrLacks (command_of (drop 1 (map string_bytes arguments.now)))
+    ensures { HasRun (DoesOrLacks (command_in (drop 1 (map string_bytes arguments.now)))
         (source_change S.left S.faults source.old source.new) (sink_change K.taken K.faults sink.old sink.new))
         result (sink_change N.taken N.faults notes.old notes.new) }
 {
@@ -82,7 +82,7 @@ pub fn start<S: Source, K: Sink, N: Sink>(
     sink: &mut K,
     notes: &mut N,
 ) -> ExitCode
-    ensures ran { IfOk arguments (λ texts. HasExited (DoesOrLacks (command_of (drop 1 (map string_bytes texts.items)))
+    ensures ran { IfOk arguments (λ texts. HasExited (DoesOrLacks (command_in (drop 1 (map string_bytes texts.items)))
         (source_change S.left S.faults source.old source.new) (sink_change K.taken K.faults sink.old sink.new))
         (exit_status result) (sink_change N.taken N.faults notes.old notes.new)) }
     ensures no_words { IfErr arguments (λ why. HasExited (EndsUntouched (ending_without why)

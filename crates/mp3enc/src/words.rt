@@ -1,83 +1,35 @@
-ghost use Rattle.std.specs.Prelude.{◌≡◌, ◌≤◌, length};
-ghost use Rattle.std.specs.Char.{is_ascii_digit};
-ghost use Rattle.std.specs.List.{list_all};
-ghost use Rattle.mp3enc.specs.Words.{number_of_digits, is_number as is_number_word, rate_of, rate_of_word, asked};
+ghost use Rattle.std.specs.Prelude.{◌≡◌, Err, IfOk, IsSome, None, Some};
+ghost use Rattle.l3_words.specs.Words.{texts_of, word_of};
+ghost use Rattle.mp3enc.specs.Words.{asked};
 
-use l3_base::Rate;
+use l3_words::{EncodeWords, NoCommand, read_command};
+use std::alloc::Global;
+
+// The guessers that a committer can be given: the last reserve, the mean of some, and 0.
+const GUESSERS: usize = 3;
 
 /// What the words of the command line ask for.
 #[derive(Clone, Copy, Debug, PartialEq, Eq)]
 pub enum Command {
-    /// To encode a WAV file at this rate.
-    Encode(Rate),
+    /// To encode a WAV file.
+    Encode(EncodeWords),
     /// To check a stream.
     Check,
 }
 
-// The number that at most ten digits write.
-fn value(digits: &[u8]) -> u64
-    requires { length digits.now ≤ 10 }
-    ensures { result ≡ number_of_digits digits.now }
-{
-    let mut value = 0u64;
-    for digit in digits {
-        value = 10 * value + u64::from(digit.saturating_sub(b'0'));
-    }
-    value
-}
-
-// The rate of so many kbit/s.
-fn rate(kbits: u64) -> Option<Rate>
-    ensures { result ≡ rate_of kbits }
-{
-    if kbits > 320 {
-        return None;
-    }
-    Rate::of(kbits as u32)
-}
-
-// Whether all bytes are decimal digits.
-fn are_digits(word: &[u8]) -> bool
-    ensures { result ≡ list_all is_ascii_digit word.now }
-{
-    word.iter().all(|byte| byte.is_ascii_digit())
-}
-
-// Whether a word is one to ten decimal digits.
-fn is_number(word: &[u8]) -> bool
-    ensures { result ≡ is_number_word word.now }
-{
-    1 <= word.len() && word.len() <= 10 && are_digits(word)
-}
-
-// The rate that a word names by one to ten decimal digits.
-fn rate_named(word: &str) -> Option<Rate>
-    ensures { result ≡ rate_of_word word.now }
-{
-    let digits = word.as_bytes();
-    if is_number(digits) {
-        rate(value(digits))
-    } else {
-        None
-    }
-}
-
-/// The command that the words of the command line ask for, or `None` where they are refused.
+/// The command that the words of the command line ask for.
 ///
-/// Taken are the one word `encode`, which asks for 128 kbit/s, the three words `encode --rate R`,
-/// where R is one to ten decimal digits whose number is one of the fourteen rates, and the one word
-/// `check`.
-pub fn command_asked(words: &[&str]) -> Option<Command>
-    ensures { result ≡ asked words.now }
+/// Errors: the words are refused, or there was no memory to read them, which comes only behind the
+/// word of a command.
+pub fn command_asked(alloc: Global, words: &[&str]) -> Result<Command, NoCommand>
+    ensures command { IfOk result (λ command. asked words.now ≡ Some command) }
+    ensures usage { result ≡ Err NoCommand.Usage → asked words.now ≡ None }
+    ensures memory { result ≡ Err NoCommand.Memory → IsSome (word_of (texts_of words.now)) }
 {
-    if words.len() == 1 && words[0] == "encode" {
-        return Some(Command::Encode(Rate::K128));
+    match read_command(alloc, words, GUESSERS) {
+        Ok(l3_words::Command::Encode(words)) => Ok(Command::Encode(words)),
+        Ok(l3_words::Command::Check) => Ok(Command::Check),
+        Ok(l3_words::Command::Demo(_)) => Err(NoCommand::Usage),
+        Err(why) => Err(why),
     }
-    if words.len() == 1 && words[0] == "check" {
-        return Some(Command::Check);
-    }
-    if words.len() == 3 && words[0] == "encode" && words[1] == "--rate" {
-        return rate_named(words[2]).map(Command::Encode);
-    }
-    None
 }

@@ -1,4 +1,4 @@
-use Rattle.l3_count.proofs.tests.bits_of_one_line.Given as goal
+use Rattle.l3_count.proofs.tests.over_planes_and_plain.Given as goal
 
-abbrev pub ghosts-count_one_line : goal.ghosts-count_one_line
-ghosts-count_one_line g a = record { name = a.blank.name; parts = a.blank.parts }
+abbrev pub ghosts-both : goal.ghosts-both
+ghosts-both g a = record { name = a.blank.name; parts = a.blank.parts }

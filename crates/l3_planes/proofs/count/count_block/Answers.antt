@@ -3,9 +3,8 @@ use Rattle.l3_quant.specs.Quantiser.{magnitude_at}
 use Rattle.std.proofs.lemmas.Int.{to_z-of_z}
 use Rattle.std.specs.Int.Signed.{le_z, le_z_yes}
 use Rattle.std.proofs.lemmas.Float.{T_from_true}
-use Rattle.l3_quant.proofs.LimitLemmas.{counted_most}
 use Rattle.l3_planes.specs.Rows.{line_at, size_at}
-use Rattle.l3_planes.proofs.Counts.{counted_row, counted_all, row_at, zero_counts}
+use Rattle.l3_planes.proofs.Counts.{counted_row, counted_all, counted_most, row_at, zero_counts}
 use Rattle.l3_planes.proofs.count.count_block.Goals as goal
 
 pub loop-k-init : goal.loop-k-init

@@ -1,4 +1,4 @@
-use Rattle.std.proofs.Common.{◌≡◌, ℕ, ◌+◌, ◌-◌, ◌*◌, ◌≤◌, ◌<◌, min, List, get_or, arith, ap, sym, ◌∙◌}
+use Rattle.std.proofs.Common.{◌≡◌, ℕ, ◌+◌, ◌-◌, ◌*◌, ◌≤◌, min, List, get_or, arith, ap, ◌∙◌}
 use Rattle.l3_region.specs.Lanes.{cell_at, cost_between, extra_of, kept_cost, least_below, long_cost}
 use Rattle.l3_region.proofs.LaneLemmas.{least_below-none, least_below-more}
 use Rattle.l3_region.proofs.costs.costs_to_end.Goals as goal

@@ -1,8 +1,5 @@
-use Rattle.std.proofs.Common.{◌≡◌, ◌≢◌, ℕ, List, ◌<◌, ◌+◌, ◌/◌, ◌%◌, ◌∙◌, get_or, get_or-set_other, get_or-set_same, length, replicate, inl, inr, arith, ap, sym, min}
-use Rattle.std.proofs.lemmas.Bool.{cases_eq, cases_lt}
-use Rattle.std.proofs.lemmas.List.{get_or_past}
-use Rattle.std.proofs.Math.ListN.{set, length-set}
-use Rattle.l3_tables.proofs.ListLemmas.{filled_more}
+use Rattle.std.proofs.Common.{◌≡◌, ℕ, List, ◌+◌, ◌/◌, ◌%◌, ◌∙◌, get_or, length, inl, inr, arith, ap, sym, min}
+use Rattle.std.proofs.lemmas.Bool.{cases_lt}
 use Rattle.std.proofs.lemmas.Simd.{get_or-replicate}
 use Rattle.l3_tables.specs.Bands.{edge_at}
 use Rattle.std.specs.Prelude.{ℤ}
@@ -19,12 +16,6 @@ use Rattle.l3_region.proofs.sums.sum_bands.Goals as goal
 end_even : (end : ℕ) (lines : List ℤ) → end ≡ end_of_pairs lines → end % 2 ≡ 0
 end_even end lines is = omega arith
 
-few_none : (classes : List ℕ) → classes ≡ replicate 32 0 → (b : ℕ) → get_or classes b 0 < 14
-few_none classes is b = elim (cases_lt b 32) [
-  | inl lt ↦ (let e = ap (λ xs. get_or xs b 0) is ∙ get_or-replicate {A = ℕ} 32 b 0 0 lt in omega (arith, e))
-  | inr ge ↦ (let long = ap length is in let e = get_or_past classes b 0 (omega (arith, long, ge)) in omega (arith, e))
-]
-
 pub loop-band-init : goal.loop-band-init
 loop-band-init c =
     let none = c.no_bits-sum.ensures in
@@ -35,16 +26,7 @@ loop-band-init c =
       lanes = c.requires.lanes;
       edges = c.requires.edges;
       cells = λ t b lt less. absurd (omega arith);
-      own_long = ap length c.no_classes-own.ensures;
-      own = λ b lt. absurd (omega arith);
-      few = few_none c.no_classes-own.result c.no_classes-own.ensures;
     }
-
-few_more : (classes : List ℕ) (i v : ℕ) → i < length classes → v < 14 → ((b : ℕ) → get_or classes b 0 < 14) → (b : ℕ) → get_or (set classes i v) b 0 < 14
-few_more classes i v lt small few b = elim (cases_eq b i) [
-  | inl same ↦ (let e = get_or-set_same classes i v 0 lt in let at = ap (λ j. get_or (set classes i v) j 0) same in omega (arith, e, at))
-  | inr other ↦ (let ne : b ≢ i = other in let e = get_or-set_other classes i b v 0 ne in omega (arith, e, few b))
-]
 
 pub loop-band-preserved : goal.loop-band-preserved
 loop-band-preserved c =
@@ -53,9 +35,6 @@ loop-band-preserved c =
     let end = c.args.end in
     let lines = lines_in c.args.pairs.now in
     let band : ℕ = c.loop-band.band in
-    let own = c.loop-band.own in
-    let class = c.band_class.result in
-    let room : band < length own = omega (arith, inv.own_long, c.loop-band-test.true) in
     record {
       start = omega (arith, c.min-to.ensures, c.from.ensures, c.edge.ensures.value);
       long = c.add_pairs.ensures.long;
@@ -69,9 +48,6 @@ loop-band-preserved c =
             ap (cell_at c.put.new.sums t) same
             ∙ (c.put.ensures.here t lt ∙ (inv.sum t lt ∙ (ap (λ n. short_sum lines t (n / 2)) inv.start ∙ ap (λ i. short_sum lines t (min (edge_at rate i) end / 2)) (sym same)))))
       ];
-      own_long = length-set own band class ∙ inv.own_long;
-      own = filled_more (λ b v. IsBandClass c.args.pairs.now c.args.classes.now rate end b v) own band class 0 room inv.own c.band_class.ensures.value;
-      few = few_more own band class room c.band_class.ensures.small inv.few;
     }
 
 -- from one edge to the next
@@ -112,11 +88,11 @@ returns-clause-made c = λ q is.
       long = is.long;
       codable = is.codable;
       sums = λ b k lt lk. rows_from lines rate end c.put-4.new.sums cells b k lt lk ∙ sums_same q (unpacked pairs) k (min (edge_at rate b) end / 2) (unpacked_same q pairs c.args.classes.now c.told-pairs is);
-      classed = λ b lt. inv.own b (omega arith) q is;
-      few = λ b lt. inv.few b;
+      classed = λ b lt. c.part_classes.ensures.value b lt q is;
+      few = λ b lt. c.part_classes.ensures.few b;
     }
 
 pub returns-clause-ready : goal.returns-clause-ready
 returns-clause-ready c =
     let known = c.requires.known in
-    are_sums known.0 c.args.rate c.args.end (rows_of c.put-4.new.sums) c.loop-band.own (returns-clause-made c known.0 known.1)
+    are_sums known.0 c.args.rate c.args.end (rows_of c.put-4.new.sums) c.part_classes.result (returns-clause-made c known.0 known.1)

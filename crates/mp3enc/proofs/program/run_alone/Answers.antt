@@ -1,7 +1,7 @@
 use Rattle.std.proofs.Common.{ap, inl, inr, refl}
 use Rattle.l3_encoder.specs.Changes.{SourceChange, SinkChange, source_change, sink_change}
 use Rattle.mp3enc.proofs.StatusLemmas as lemmas
-use Rattle.mp3enc.specs.Program.{Does}
+use Rattle.mp3enc.specs.Program.{DoesOrLacks}
 use Rattle.mp3enc.specs.Words.{asked}
 use Rattle.mp3enc.proofs.program.run_alone.Goals as goal
 use Rattle.mp3enc.proofs.program.run_alone.Goals.{After-tell}
@@ -14,17 +14,17 @@ of_source g c = source_change g.S.Source.left g.S.Source.faults c.args.source.no
 abbrev of_sink : (g : Over) (c : After-tell g) → SinkChange
 of_sink g c = sink_change g.K.Sink.taken g.K.Sink.faults c.args.sink.now c.outcome-ending.new.sink
 
-did : (g : Over) (c : After-tell g) → Does (asked c.args.words.now) (of_source g c) (of_sink g c) c.outcome-ending.result
+did : (g : Over) (c : After-tell g) → DoesOrLacks (asked c.args.words.now) (of_source g c) (of_sink g c) c.outcome-ending.result
 did g c = c.outcome-ending.ensures
 
 pub returns-clause-answered : goal.returns-clause-answered
 returns-clause-answered g c = rw c.tell.ensures.status (lemmas.may_come (of_source g c) (of_sink g c) _ c.outcome-ending.result (did g c))
 
+pub returns-clause-usage_only : goal.returns-clause-usage_only
+returns-clause-usage_only g c = λ is. lemmas.usage_none (of_source g c) (of_sink g c) _ c.outcome-ending.result (did g c) (lemmas.usage_is c.outcome-ending.result (rw c.tell.ensures.status at is))
+
 pub returns-clause-usage : goal.returns-clause-usage
-returns-clause-usage g c = (
-  λ is. lemmas.usage_none (of_source g c) (of_sink g c) _ c.outcome-ending.result (did g c) (lemmas.usage_is c.outcome-ending.result (rw c.tell.ensures.status at is)),
-  λ none. let is = lemmas.none_usage (of_source g c) (of_sink g c) _ c.outcome-ending.result (did g c) none in rw (c.tell.ensures.status, is) refl,
-)
+returns-clause-usage g c = λ none. rw c.tell.ensures.status (lemmas.usage_or_lack (of_source g c) (of_sink g c) _ c.outcome-ending.result (did g c) none)
 
 pub returns-clause-usage_unread : goal.returns-clause-usage_unread
 returns-clause-usage_unread g c = λ is. lemmas.usage_unread (of_source g c) (of_sink g c) _ c.outcome-ending.result (did g c) (lemmas.usage_is c.outcome-ending.result (rw c.tell.ensures.status at is))
@@ -57,7 +57,7 @@ pub returns-clause-refused_untouched : goal.returns-clause-refused_untouched
 returns-clause-refused_untouched g c = lemmas.refused_untouched (of_source g c) (of_sink g c) _ c.outcome-ending.result (did g c)
 
 pub returns-clause-left : goal.returns-clause-left
-returns-clause-left g c = rw c.tell.ensures.status (lemmas.leaves (of_source g c) (of_sink g c) _ c.outcome-ending.result (did g c))
+returns-clause-left g c = rw c.tell.ensures.status (lemmas.leaves (of_source g c) (of_sink g c) (ap g.S.Source.left) _ c.outcome-ending.result (did g c))
 
 pub returns-clause-cause_read : goal.returns-clause-cause_read
 returns-clause-cause_read g c = λ is. lemmas.read_fault (of_source g c) (of_sink g c) _ c.outcome-ending.result (did g c) (rw c.tell.ensures.status at is)
@@ -73,6 +73,10 @@ returns-clause-steady_write g c = λ other. lemmas.steady_write (of_source g c) 
 
 pub returns-clause-complete : goal.returns-clause-complete
 returns-clause-complete g c = λ steady steady_sink. rw c.tell.ensures.status (lemmas.complete (of_source g c) (of_sink g c) _ c.outcome-ending.result (did g c) steady steady_sink)
+
+pub returns-clause-statistics : goal.returns-clause-statistics
+returns-clause-statistics g c = λ is. lemmas.tells_summary (of_source g c) (of_sink g c) (sink_change g.N.Sink.taken g.N.Sink.faults c.args.notes.now c.tell.new.notes)
+    _ c.outcome-ending.result (did g c) (rw c.tell.ensures.status at is) c.tell.ensures.told
 
 pub returns-clause-notes : goal.returns-clause-notes
 returns-clause-notes g c = record {
