@@ -39,7 +39,7 @@ pub fn forget(kept: &mut Vec<i16>)
         kept.clear();
         return;
     }
-    kept.rotate_left(576);
+    kept.copy_within(576.., 0);
     kept.truncate(count - 576);
 }
 
