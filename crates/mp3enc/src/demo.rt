@@ -36,7 +36,7 @@ struct Summary {
 // Encodes the signal that words ask for, with a counter of its own.
 //
 // It does so on one thread: what the words say of workers is of no effect yet.
-fn summary<L: Ledger + Send>(
+fn encode_signal<L: Ledger + Send>(
     alloc: Global,
     words: DemoWords,
     blank: Blank,
@@ -52,7 +52,13 @@ fn summary<L: Ledger + Send>(
     let mut source = demo_source(words.frames, words.seed);
     let mut stream = DigestSink::new();
     let mut steps: Steps<L> = Steps::start(blank);
-    match encode_alone(alloc, words.options.rate, &mut source, &mut stream, &mut steps) {
+    match encode_alone(
+        alloc,
+        words.options.rate,
+        &mut source,
+        &mut stream,
+        &mut steps,
+    ) {
         Ok(report) => Ok(Summary {
             frames: report.frames,
             bytes: stream.length(),
@@ -127,7 +133,7 @@ pub fn demo<K: Sink, L: Ledger + Send>(
     requires most { words.frames ≤ 100000 }
     ensures { Ends (command.Demo words) result no_source (sink_change K.taken K.faults sink.old sink.new) }
 {
-    let summary = match summary::<L>(alloc, words, blank) {
+    let summary = match encode_signal::<L>(alloc, words, blank) {
         Ok(summary) => summary,
         Err(_) => return Ending::Memory,
     };
