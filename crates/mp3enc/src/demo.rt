@@ -73,7 +73,8 @@ fn encode_signal<L: Ledger + Send>(
 
 // The line up to the digest.
 fn front(summary: &Summary) -> ArrayString<64>
-    ensures { result.bytes ≡ codes "frames " ++ decimal summary.now.frames ++ codes " bytes " ++ decimal summary.now.bytes ++ codes " sha256 " }
+    ensures { result.bytes ≡ codes "frames " ++ decimal summary.now.frames
+        ++ codes " bytes " ++ decimal summary.now.bytes ++ codes " sha256 " }
 {
     let mut digits = Buffer::new();
     let mut front = ArrayString::new();
