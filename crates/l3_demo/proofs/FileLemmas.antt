@@ -7,9 +7,12 @@ use Rattle.l3_base.specs.declared.rate.Channels.TheVariants.{Stereo}
 use Rattle.l3_base.specs.declared.rate.SampleRate.TheVariants.{Hz44100}
 use Rattle.l3_wav.specs.declared.fields.Format.{Format}
 use Rattle.l3_wav.specs.Wav.{Said, file_of, wav_of, after_head, chunks_from, format_of, most_chunks}
+use Rattle.l3_wav.specs.Pcm.{firsts, seconds}
+use Rattle.l3_wav.specs.Samples.{coming, unread}
 use Rattle.l3_wav.proofs.ChunkForms.{chunks_from-suc}
 use Rattle.l3_demo.specs.Demo.{demo_file, form_bytes, depth_bytes, samples_for, samples_from}
 use Rattle.l3_demo.specs.Laws.{IsWav, head_for}
+use Rattle.l3_demo.proofs.ValueLemmas.{all-coming, lefts, rights}
 
 -- a head of so many bytes of data, and what stands behind it
 abbrev said_with : List ℕ → ℕ → Said
@@ -65,7 +68,9 @@ said_is frames seed most =
 
 pub is_wav : (frames seed : ℕ) → frames ≤ 100000 → IsWav frames seed
 unfolding wav_of after_head
-is_wav frames seed most = record {
+is_wav frames seed most = let rest : after_head (demo_file frames seed) ≡ samples_from seed 0 (samples_for frames) = ap (λ (s : Said). s.left) (said_is frames seed most) in record {
   accepted = ap (λ (s : Said). s.answer) (said_is frames seed most);
-  rest = ap (λ (s : Said). s.left) (said_is frames seed most);
+  rest = rest;
+  left = ap (λ l. firsts (coming (unread Stereo (4 * samples_for frames)) l)) rest ∙ (ap firsts (all-coming seed (samples_for frames)) ∙ lefts seed 0 (samples_for frames));
+  right = ap (λ l. seconds (coming (unread Stereo (4 * samples_for frames)) l)) rest ∙ (ap seconds (all-coming seed (samples_for frames)) ∙ rights seed 0 (samples_for frames));
 }
