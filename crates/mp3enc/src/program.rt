@@ -84,12 +84,13 @@ fn outcome<S: Source, K: Sink>(
 /// Does what the words of the command line say, and tells notes how it ended. It always answers.
 ///
 /// `encode` reads the WAV file of the source whole, and then writes its stream at the rate of the
-/// words, 128 kbit/s where they name none; with `--stats` it tells notes how many gains were tried. `check` reads a stream of at most 16777216 frames
-/// whole, in memory that does not grow, and then writes one line, `frames F bits B`: how many
-/// frames there are, and the sum of their units' part2_3_length. `demo` reads nothing: it encodes
-/// the signal of `l3_demo` at the rate of the words, and then writes one line, `frames F bytes B
-/// sha256 D`: how many frames and bytes its stream has, and its digest. Where the input is refused, a
-/// read fails or there is no memory, nothing is written.
+/// words, 128 kbit/s where they name none; with `--stats` it tells notes how many gains were tried.
+/// `check` reads a stream of at most 16777216 frames whole, in memory that does not grow, and then
+/// writes one line, `frames F bits B`: how many frames there are, and the sum of their units'
+/// part2_3_length. `demo` reads nothing: it encodes the signal of `l3_demo` at the rate of the words,
+/// and then writes one line, `frames F bytes B sha256 D`: how many frames and bytes its stream has,
+/// and its digest. Where the input is refused, a read fails or there is no memory, nothing is
+/// written.
 ///
 /// What the stream is for the bytes of any file, and that it reads as the chosen frames and in no
 /// other way, is the law of `l3_encoder::files_are_encoded`.
