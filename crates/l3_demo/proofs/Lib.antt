@@ -1,1 +1,3 @@
+pub mod FileLemmas
 pub mod SampleLemmas
+pub mod ValueLemmas

@@ -45,16 +45,18 @@ pub record StillHolds (old new : WindowsView) (bytes now : List ℕ) : Type 0 wh
 abbrev pub GoesOn : WindowsView → WindowsView → Option (List ℕ) → Option (List ℕ) → Type 0
 GoesOn old new left_old left_new = IfSome left_old (λ bytes. IsSomeAnd left_new (λ now. StillHolds old new bytes now))
 
--- kept by the type, where each channel has room for so many samples
-pub record AreSound (v : WindowsView) (left_capacity right_capacity : ℕ) : Type 0 where
+-- kept by the type, where each channel has room for so many samples, and those of so many granules
+-- are forgotten and still stand in front
+pub record AreSound (v : WindowsView) (stale left_capacity right_capacity : ℕ) : Type 0 where
   pub ahead : (0 < v.ahead) × (v.ahead ≤ 64)
   pub base : v.base ≤ 8589934592
   pub few : v.read ≤ 576 * (v.base + v.ahead + 1)
   pub near : v.ended ≡ false → 576 * v.base ≤ v.read
   pub left_long : length v.left ≡ 1056 + v.read - 576 * v.base
   pub right_long : length v.right ≡ right_count v.channels (length v.left)
-  pub left_room : 1056 + 576 * (v.ahead + 1) ≤ left_capacity
-  pub right_room : InStereo v.channels (1056 + 576 * (v.ahead + 1) ≤ right_capacity)
+  pub few_stale : stale ≤ 7
+  pub left_room : 1056 + 576 * (v.ahead + 8) ≤ left_capacity
+  pub right_room : InStereo v.channels (1056 + 576 * (v.ahead + 8) ≤ right_capacity)
   pub channels : v.samples.failed ≡ false → v.samples.channels ≡ v.channels
   pub declared : v.samples.failed ≡ false → 2 * v.read + v.samples.remaining < 2 ^ 32
   pub small : 2 * v.read < 2 ^ 32

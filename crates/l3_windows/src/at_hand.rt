@@ -24,8 +24,9 @@ const FRAME: u64 = 1152;
 /// the next granules cover.
 ///
 /// Only `open` takes memory: room for 1056 samples of each channel and 576 for each granule that is
-/// read ahead, and 576 more, since the next are read before the last are forgotten. That these
-/// samples are numbers of 16 bits is told by `l3_wav`'s law `samples_of_a_file`.
+/// read ahead, and for those of eight granules more, since the next are read before the last are
+/// forgotten, and the samples of seven granules that are forgotten may still stand in front. That
+/// these samples are numbers of 16 bits is told by `l3_wav`'s law `samples_of_a_file`.
 #[derive(Drop)]
 pub struct Windows {
     channels: Channels,
@@ -34,12 +35,16 @@ pub struct Windows {
     read: u64,
     ended: bool,
     samples: Samples,
+
+    // Of so many granules, at most 7, the samples are forgotten and still stand in front, in `left`
+    // and in `right`.
+    stale: usize,
     left: Vec<i16>,
     right: Vec<i16>,
 }
 
 impl Model for Windows {
-    ghost use Rattle.std.specs.Prelude.{vec_capacity};
+    ghost use Rattle.std.specs.Prelude.{◌*◌, drop, vec_capacity};
     ghost use Rattle.l3_windows.specs.Holding.{WindowsView, AreSound};
 
     ghost Value = { WindowsView };
@@ -51,8 +56,8 @@ impl Model for Windows {
       read = w.read;
       ended = w.ended;
       samples = w.samples;
-      left = w.left.items;
-      right = w.right.items;
+      left = drop (576 * w.stale) w.left.items;
+      right = drop (576 * w.stale) w.right.items;
     } };
 
     ghost invariant = { λ w. AreSound
@@ -63,10 +68,10 @@ impl Model for Windows {
           read = w.read;
           ended = w.ended;
           samples = w.samples;
-          left = w.left.items;
-          right = w.right.items;
+          left = drop (576 * w.stale) w.left.items;
+          right = drop (576 * w.stale) w.right.items;
         })
-        (vec_capacity w.left) (vec_capacity w.right) };
+        w.stale (vec_capacity w.left) (vec_capacity w.right) };
 }
 
 // Two granules to a frame.
@@ -101,7 +106,7 @@ impl Windows {
         ensures given { IfOk result (λ w. (w.channels ≡ channels) × (w.ahead ≡ ahead) × (w.samples ≡ samples)) }
     {
         let ahead = u64::from(ahead);
-        let room = (1056 + 576 * (ahead + 1)) as usize;
+        let room = (1056 + 576 * (ahead + 8)) as usize;
         let left = silence(alloc, room)?;
         let right = right_silence(alloc, channels, room)?;
         Ok(Windows {
@@ -111,6 +116,7 @@ impl Windows {
             read: 0,
             ended: false,
             samples,
+            stale: 0,
             left,
             right,
         })
@@ -180,8 +186,7 @@ impl Windows {
         ensures same { (self.new.channels ≡ self.old.channels) × (self.new.ahead ≡ self.old.ahead) × (self.new.read ≡ self.old.read) × (self.new.ended ≡ self.old.ended) × (self.new.samples ≡ self.old.samples) }
     {
         self.base += 1;
-        forget(&mut self.left);
-        forget(&mut self.right);
+        self.stale = forget(self.stale, &mut self.left, &mut self.right);
     }
 
     /// Goes to granule `base`, the one of the last call or the next, and reads on until so many
@@ -253,7 +258,7 @@ impl Windows {
             (out.new.left ≡ window_of left number) × (out.new.right ≡ window_of right number) }
     {
         let after = number.get() - self.base;
-        fill_window(&mut out.left, &self.left, after);
-        fill_window(&mut out.right, &self.right, after);
+        fill_window(&mut out.left, &self.left, self.stale, after);
+        fill_window(&mut out.right, &self.right, self.stale, after);
     }
 }

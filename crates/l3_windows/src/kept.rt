@@ -1,4 +1,4 @@
-ghost use Rattle.std.specs.Prelude.{◌≡◌, ◌+◌, ◌-◌, ◌/◌, ◌%◌, ◌≤◌, ◌++◌, IfOk, drop, length, replicate, pos, vec_len, vec_capacity};
+ghost use Rattle.std.specs.Prelude.{◌≡◌, ◌+◌, ◌-◌, ◌*◌, ◌/◌, ◌%◌, ◌≤◌, ◌++◌, IfOk, drop, length, replicate, pos, vec_len, vec_capacity};
 ghost use Rattle.l3_base.specs.Rates.{channels_of};
 ghost use Rattle.l3_wav.specs.Pcm.{firsts, seconds, left_of, right_of};
 ghost use Rattle.l3_windows.specs.Reading.{right_zeros, InStereo};
@@ -29,18 +29,37 @@ pub fn right_silence(alloc: Global, channels: Channels, room: usize) -> Result<V
     }
 }
 
-/// Forgets the first 576 samples.
-pub fn forget(kept: &mut Vec<i16>)
-    ensures items { kept.new.items ≡ drop 576 kept.old.items }
+// Takes out the first 4608 samples, those of eight granules.
+fn take_out(kept: &mut Vec<i16>)
+    ensures items { kept.new.items ≡ drop 4608 kept.old.items }
     ensures capacity { vec_capacity kept.new ≡ vec_capacity kept.old }
 {
     let count = kept.len();
-    if count <= 576 {
+    if count <= 4608 {
         kept.clear();
         return;
     }
-    kept.copy_within(576.., 0);
-    kept.truncate(count - 576);
+    kept.copy_within(4608.., 0);
+    kept.truncate(count - 4608);
+}
+
+/// Forgets the samples of one more granule, where those of so many, at most 7, are forgotten and
+/// still stand in front, and says of how many they stand there then: those of eight are taken out
+/// at once.
+pub fn forget(stale: usize, left: &mut Vec<i16>, right: &mut Vec<i16>) -> usize
+    requires { stale ≤ 7 }
+    ensures few { result ≤ 7 }
+    ensures left { drop (576 * result) left.new.items ≡ drop 576 (drop (576 * stale) left.old.items) }
+    ensures right { drop (576 * result) right.new.items ≡ drop 576 (drop (576 * stale) right.old.items) }
+    ensures left_capacity { vec_capacity left.new ≡ vec_capacity left.old }
+    ensures right_capacity { vec_capacity right.new ≡ vec_capacity right.old }
+{
+    if stale < 7 {
+        return stale + 1;
+    }
+    take_out(left);
+    take_out(right);
+    0
 }
 
 // Adds the values of whole samples of two channels, the first of each to `left` and the second to

@@ -8,8 +8,9 @@ use l3_wav::{Samples, WavHead};
 use std::alloc::{AllocError, Global};
 use std::test::Fail;
 
-// Samples of each channel in a ramp: three frames, and so six granules.
-const COUNT: u16 = 1200;
+// Samples of each channel in a ramp: six frames, and so twelve granules, of which the samples of
+// eight are taken out at once.
+const COUNT: u16 = 5000;
 
 // The bytes of a ramp: sample n is n to the left and -1 - n to the right.
 fn ramp(alloc: Global, channels: Channels) -> Result<Vec<u8>, AllocError> {
@@ -99,7 +100,7 @@ fn is_next_right<S: Source>(
     is_of_ramp(&window, channels, base)
 }
 
-// Whether the six windows of a ramp are right, and the end is known once a read was short.
+// Whether the twelve windows of a ramp are right, and the end is known once a read was short.
 fn is_ramp_right(
     alloc: Global,
     channels: Channels,
@@ -116,12 +117,12 @@ fn is_ramp_right(
         return Ok(false);
     }
     let is_known = windows.total().is_some();
-    for base in 1..6 {
+    for base in 1..12 {
         if !is_next_right(&mut windows, base, &mut source, channels) {
             return Ok(false);
         }
     }
-    Ok(is_known == (ahead == 64) && windows.total() == Some(6))
+    Ok(is_known == (ahead == 64) && windows.total() == Some(12))
 }
 
 #[test]

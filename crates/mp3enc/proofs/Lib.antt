@@ -1,2 +1,4 @@
 pub mod CheckLemmas
+pub mod DemoLemmas
 pub mod StatusLemmas
+pub mod WordLemmas

@@ -11,6 +11,7 @@ use Rattle.l3_wav.specs.declared.fault.WavFault.TheVariants.{NotRiff, HeaderEnds
 use Rattle.l3_wav.specs.Wav.{wav_of}
 use Rattle.l3_base.specs.declared.rate.Rate.{Rate}
 use Rattle.l3_commit.specs.declared.report.Report.{Report}
+use Rattle.l3_words.specs.declared.command.DemoWords.{DemoWords}
 use Rattle.l3_words.specs.declared.command.EncodeWords.{EncodeWords}
 use Rattle.l3_encoder.specs.Changes.{SourceChange, SinkChange}
 use Rattle.l3_encoder.specs.Encoded.{encoding_in, frame_number_in, gains_in, rest_in}
@@ -22,10 +23,10 @@ use Rattle.mp3enc.specs.declared.status.Status.TheVariants as status
 use Rattle.mp3enc.specs.declared.ending.Ending.{Ending}
 use Rattle.mp3enc.specs.declared.ending.Ending.TheVariants.{Done, Counted, Usage, Refused, Deviates, ReadFault, WriteFault, Memory}
 use Rattle.mp3enc.specs.declared.words.Command.{Command}
-use Rattle.mp3enc.specs.declared.words.Command.TheVariants.{Encode, Check}
+use Rattle.mp3enc.specs.declared.words.Command.TheVariants.{Encode, Check, Demo}
 use Rattle.mp3enc.specs.Check.{frames_limit, reading_in, deviation_in, line_by, line_in}
 use Rattle.mp3enc.specs.Status.{status_of, refusal_of, reused_of, statistics_line, text_of}
-use Rattle.mp3enc.specs.Program.{AreTold, Does, DoesOrLacks, Encodes, Ends, IsRefused, Leaves, LeavesUnread, MayCome, failed_reads_at, failed_writes_at, output_of, summary_of}
+use Rattle.mp3enc.specs.Program.{AreTold, Does, DoesOrLacks, Encodes, Ends, IsRefused, KeepsSource, Leaves, LeavesUnread, MayCome, NeedsMemory, failed_reads_at, failed_writes_at, input_of, no_source, output_of, summary_of}
 
 IfSome-always : {X : Type 0} (o : Option X) (P : X → Type 0) → ((x : X) → P x) → IfSome o P
 IfSome-always None P h = tt
@@ -140,7 +141,7 @@ module _ (source : SourceChange) (sink : SinkChange) where
   ends_may_come command (Counted report) d = tt
   ends_may_come command (Refused why) d = refusal_may_come command why d.explains.0 d.explains.2
   ends_may_come command (Deviates why) d = ap Some d.explains.0
-  ends_may_come command ReadFault d = tt
+  ends_may_come command ReadFault d = d.explains.0
   ends_may_come command WriteFault d = tt
   ends_may_come command Memory d = tt
   ends_may_come command Usage d = absurd d.explains
@@ -217,6 +218,7 @@ module _ (source : SourceChange) (sink : SinkChange) where
   refused_there_done : (asked : Option Command) (e : Ending) → Done_so asked e → IsSomeAnd asked Encodes → IsSteady source.faults source.faults_now → IfSome source.left (λ bytes. (why : WavFault) → wav_of bytes ≡ Err why → Some (status_of e) ≡ Some (refusal_of why))
   refused_there_done (Some (Encode words)) e d encodes steady = refused_of words e d steady
   refused_there_done (Some Check) e d encodes steady = absurd encodes
+  refused_there_done (Some (Demo words)) e d encodes steady = absurd encodes
   refused_there_done None e d encodes steady = absurd encodes
 
   deviates_of : (e : Ending) → Ends Check e source sink → IsSteady source.faults source.faults_now → IfSome source.left (λ bytes. IsSome (deviation_in bytes) → Some (status_of e) ≡ Some status.BadStream)
@@ -245,7 +247,7 @@ module _ (source : SourceChange) (sink : SinkChange) where
   untouched_by_end command (Counted report) d not_ok not_write = absurd (not_ok refl)
   untouched_by_end command (Refused why) d not_ok not_write = d.explains.3
   untouched_by_end command (Deviates why) d not_ok not_write = d.explains.4
-  untouched_by_end command ReadFault d not_ok not_write = d.explains
+  untouched_by_end command ReadFault d not_ok not_write = d.explains.1
   untouched_by_end command WriteFault d not_ok not_write = absurd (not_write refl)
   untouched_by_end command Memory d not_ok not_write = d.explains.2
   untouched_by_end command Usage d not_ok not_write = absurd d.explains
@@ -255,23 +257,23 @@ module _ (source : SourceChange) (sink : SinkChange) where
   untouched_else_done (Some command) e d not_ok not_write = untouched_by_end command e d not_ok not_write
   untouched_else_done None e d not_ok not_write = d.2
 
-  refused_untouched_of : (command : Command) (e : Ending) → Ends command e source sink → IfSome source.left (λ bytes. output_of command bytes ≡ None → sink.untouched)
-  refused_untouched_of command Done d = IfSome_then source.left d.explains.1 (λ bytes p none. absurd (some_not_none (output_of command bytes) _ p none))
-  refused_untouched_of command (Counted report) d = IfSome_then source.left d.explains.1 (λ bytes p none. absurd (some_not_none (output_of command bytes) _ p none))
-  refused_untouched_of command (Refused why) d = IfSome-always source.left _ (λ bytes none. d.explains.3)
-  refused_untouched_of command (Deviates why) d = IfSome-always source.left _ (λ bytes none. d.explains.4)
-  refused_untouched_of command ReadFault d = IfSome-always source.left _ (λ bytes none. d.explains)
-  refused_untouched_of command WriteFault d = IfSome_then source.left d.explains (λ bytes p none. absurd (some_not_none (output_of command bytes) _ p none))
-  refused_untouched_of command Memory d = IfSome-always source.left _ (λ bytes none. d.explains.2)
+  refused_untouched_of : (command : Command) (e : Ending) → Ends command e source sink → IfSome (input_of command source.left) (λ bytes. output_of command bytes ≡ None → sink.untouched)
+  refused_untouched_of command Done d = IfSome_then (input_of command source.left) d.explains.1 (λ bytes p none. absurd (some_not_none (output_of command bytes) _ p none))
+  refused_untouched_of command (Counted report) d = IfSome_then (input_of command source.left) d.explains.1 (λ bytes p none. absurd (some_not_none (output_of command bytes) _ p none))
+  refused_untouched_of command (Refused why) d = IfSome-always (input_of command source.left) _ (λ bytes none. d.explains.3)
+  refused_untouched_of command (Deviates why) d = IfSome-always (input_of command source.left) _ (λ bytes none. d.explains.4)
+  refused_untouched_of command ReadFault d = IfSome-always (input_of command source.left) _ (λ bytes none. d.explains.1)
+  refused_untouched_of command WriteFault d = IfSome_then (input_of command source.left) d.explains (λ bytes p none. absurd (some_not_none (output_of command bytes) _ p none))
+  refused_untouched_of command Memory d = IfSome-always (input_of command source.left) _ (λ bytes none. d.explains.2)
   refused_untouched_of command Usage d = absurd d.explains
 
   -- where a file is refused nothing is written
-  refused_untouched_done : (asked : Option Command) (e : Ending) → Done_so asked e → IfSome asked (λ command. IfSome source.left (λ bytes. output_of command bytes ≡ None → sink.untouched))
+  refused_untouched_done : (asked : Option Command) (e : Ending) → Done_so asked e → IfSome asked (λ command. IfSome (input_of command source.left) (λ bytes. output_of command bytes ≡ None → sink.untouched))
   refused_untouched_done (Some command) e d = refused_untouched_of command e d
   refused_untouched_done None e d = tt
 
   whole_by_end : (command : Command) (e : Ending) → Ends command e source sink → Some (status_of e) ≡ Some status.Ok →
-      IfSome source.left (λ bytes. IsSomeAnd (output_of command bytes) (λ output. Takes sink.taken sink.taken_now output))
+      IfSome (input_of command source.left) (λ bytes. IsSomeAnd (output_of command bytes) (λ output. Takes sink.taken sink.taken_now output))
   whole_by_end command Done d is = d.explains.1
   whole_by_end command (Counted report) d is = d.explains.1
   whole_by_end command (Refused why) d is = absurd (no_refusal why status.Ok is (λ same. cc) (λ same. cc) (λ same. cc))
@@ -283,7 +285,7 @@ module _ (source : SourceChange) (sink : SinkChange) where
 
   -- at success the sink took all of the output
   whole_done : (asked : Option Command) (e : Ending) → Done_so asked e → Some (status_of e) ≡ Some status.Ok →
-      IsSomeAnd asked (λ command. IfSome source.left (λ bytes. IsSomeAnd (output_of command bytes) (λ output. Takes sink.taken sink.taken_now output)))
+      IsSomeAnd asked (λ command. IfSome (input_of command source.left) (λ bytes. IsSomeAnd (output_of command bytes) (λ output. Takes sink.taken sink.taken_now output)))
   whole_done (Some command) e d is = whole_by_end command e d is
   whole_done None e d is = let bad = usage_status e status.Ok d.0 is in cc
 
@@ -292,22 +294,22 @@ module _ (source : SourceChange) (sink : SinkChange) where
   leaves_done (Some command) e d = d.left
   leaves_done None e d = tt
 
-  front_of_none : (command : Command) → Stands sink.taken sink.taken_now → IfSome source.left (λ bytes. IfSome (output_of command bytes) (λ output. TakesPrefix sink.taken sink.taken_now output))
-  front_of_none command stands = IfSome-always source.left _ (λ bytes. IfSome-always (output_of command bytes) _ (λ output. TakesPrefix-none sink.taken sink.taken_now output stands))
+  front_of_none : (command : Command) → Stands sink.taken sink.taken_now → IfSome (input_of command source.left) (λ bytes. IfSome (output_of command bytes) (λ output. TakesPrefix sink.taken sink.taken_now output))
+  front_of_none command stands = IfSome-always (input_of command source.left) _ (λ bytes. IfSome-always (output_of command bytes) _ (λ output. TakesPrefix-none sink.taken sink.taken_now output stands))
 
-  front_by_end : (sink.untouched → Stands sink.taken sink.taken_now) → (command : Command) (e : Ending) → Ends command e source sink → IfSome source.left (λ bytes. IfSome (output_of command bytes) (λ output. TakesPrefix sink.taken sink.taken_now output))
-  front_by_end same command Done d = IfSome_then source.left d.explains.1 (λ bytes p. IfSome-from_and (output_of command bytes) _ _ p (λ output takes. TakesPrefix-whole sink.taken sink.taken_now output takes))
-  front_by_end same command (Counted report) d = IfSome_then source.left d.explains.1 (λ bytes p. IfSome-from_and (output_of command bytes) _ _ p (λ output takes. TakesPrefix-whole sink.taken sink.taken_now output takes))
+  front_by_end : (sink.untouched → Stands sink.taken sink.taken_now) → (command : Command) (e : Ending) → Ends command e source sink → IfSome (input_of command source.left) (λ bytes. IfSome (output_of command bytes) (λ output. TakesPrefix sink.taken sink.taken_now output))
+  front_by_end same command Done d = IfSome_then (input_of command source.left) d.explains.1 (λ bytes p. IfSome-from_and (output_of command bytes) _ _ p (λ output takes. TakesPrefix-whole sink.taken sink.taken_now output takes))
+  front_by_end same command (Counted report) d = IfSome_then (input_of command source.left) d.explains.1 (λ bytes p. IfSome-from_and (output_of command bytes) _ _ p (λ output takes. TakesPrefix-whole sink.taken sink.taken_now output takes))
   front_by_end same command (Refused why) d = front_of_none command (same d.explains.3)
   front_by_end same command (Deviates why) d = front_of_none command (same d.explains.4)
-  front_by_end same command ReadFault d = front_of_none command (same d.explains)
-  front_by_end same command WriteFault d = IfSome_then source.left d.explains (λ bytes p. IfSome-from_and (output_of command bytes) _ _ p (λ output takes. takes))
+  front_by_end same command ReadFault d = front_of_none command (same d.explains.1)
+  front_by_end same command WriteFault d = IfSome_then (input_of command source.left) d.explains (λ bytes p. IfSome-from_and (output_of command bytes) _ _ p (λ output takes. takes))
   front_by_end same command Memory d = front_of_none command (same d.explains.2)
   front_by_end same command Usage d = absurd d.explains
 
   -- whatever the ending, a front of the output was written
   written_done : (sink.untouched → Stands sink.taken sink.taken_now) → (asked : Option Command) (e : Ending) → Done_so asked e →
-      IfSome asked (λ command. IfSome source.left (λ bytes. IfSome (output_of command bytes) (λ output. TakesPrefix sink.taken sink.taken_now output)))
+      IfSome asked (λ command. IfSome (input_of command source.left) (λ bytes. IfSome (output_of command bytes) (λ output. TakesPrefix sink.taken sink.taken_now output)))
   written_done same (Some command) e d = front_by_end same command e d
   written_done same None e d = tt
 
@@ -375,6 +377,7 @@ module _ (source : SourceChange) (sink : SinkChange) where
   refused_none : (command : Command) (bytes : List ℕ) (why : WavFault) → Encodes command → wav_of bytes ≡ Err why → output_of command bytes ≡ None
   refused_none (Encode words) bytes why encodes is = no_encoding words.options.rate bytes why is
   refused_none Check bytes why encodes is = absurd encodes
+  refused_none (Demo words) bytes why encodes is = absurd encodes
 
   deviates_none : (command : Command) (bytes : List ℕ) (why : StreamFault) → command ≡ Check → deviation_in bytes ≡ Some why → output_of command bytes ≡ None
   deviates_none command bytes why is same = rw is (no_line bytes (rw same refl))
@@ -383,20 +386,30 @@ module _ (source : SourceChange) (sink : SinkChange) where
   not_some None none some = cc
   not_some (Some text) none some = cc
 
+  -- a command that ran out of memory encodes the source's file, or keeps the source as it was
+  needs_or_keeps : (command : Command) → NeedsMemory command → KeepsSource command source → Encodes command ⊎ source.unread
+  needs_or_keeps (Encode words) needs kept = inl tt
+  needs_or_keeps Check needs kept = absurd needs
+  needs_or_keeps (Demo words) needs kept = inr kept
+
   complete_of : (command : Command) (e : Ending) → Ends command e source sink → IsSteady source.faults source.faults_now → IsSteady sink.faults sink.faults_now →
-      IfSome source.left (λ bytes. IsSome (output_of command bytes) → (Some (status_of e) ≡ Some status.Ok) ⊎ ((Some (status_of e) ≡ Some status.Memory) × (Encodes command ⊎ source.unread)))
-  complete_of command Done d steady steady_sink = IfSome-always source.left _ (λ bytes some. inl refl)
-  complete_of command (Counted report) d steady steady_sink = IfSome-always source.left _ (λ bytes some. inl refl)
-  complete_of command (Refused why) d steady steady_sink = IfSome_then source.left d.explains.1 (λ bytes same some. absurd (not_some (output_of command bytes) (refused_none command bytes why d.explains.0 same) some))
-  complete_of command (Deviates why) d steady steady_sink = IfSome_then source.left d.explains.1 (λ bytes same some. absurd (not_some (output_of command bytes) (deviates_none command bytes why d.explains.0 same) some))
+      IfSome (input_of command source.left) (λ bytes. IsSome (output_of command bytes) → (Some (status_of e) ≡ Some status.Ok) ⊎ ((Some (status_of e) ≡ Some status.Memory) × (Encodes command ⊎ source.unread)))
+  complete_of command Done d steady steady_sink = IfSome-always (input_of command source.left) _ (λ bytes some. inl refl)
+  complete_of command (Counted report) d steady steady_sink = IfSome-always (input_of command source.left) _ (λ bytes some. inl refl)
+  complete_of (Encode words) (Refused why) d steady steady_sink = IfSome_then source.left d.explains.1 (λ bytes same some. absurd (not_some (output_of (Encode words) bytes) (refused_none (Encode words) bytes why tt same) some))
+  complete_of Check (Refused why) d steady steady_sink = absurd d.explains.0
+  complete_of (Demo words) (Refused why) d steady steady_sink = absurd d.explains.0
+  complete_of (Encode words) (Deviates why) d steady steady_sink = let bad = d.explains.0 in cc
+  complete_of Check (Deviates why) d steady steady_sink = IfSome_then source.left d.explains.1 (λ bytes same some. absurd (not_some (output_of Check bytes) (deviates_none Check bytes why refl same) some))
+  complete_of (Demo words) (Deviates why) d steady steady_sink = let bad = d.explains.0 in cc
   complete_of command ReadFault d steady steady_sink = absurd (steady_count source.faults source.faults_now steady d.reads)
   complete_of command WriteFault d steady steady_sink = absurd (steady_count sink.faults sink.faults_now steady_sink d.writes)
-  complete_of command Memory d steady steady_sink = IfSome-always source.left _ (λ bytes some. inr (refl, inl d.explains.0))
+  complete_of command Memory d steady steady_sink = IfSome-always (input_of command source.left) _ (λ bytes some. inr (refl, needs_or_keeps command d.explains.0 d.kept))
   complete_of command Usage d steady steady_sink = absurd d.explains
 
   -- the output is written where nothing failed, or there is no memory
   complete_done : (asked : Option Command) (e : Ending) → Done_so asked e → IsSteady source.faults source.faults_now → IsSteady sink.faults sink.faults_now →
-      IfSome asked (λ command. IfSome source.left (λ bytes. IsSome (output_of command bytes) → (Some (status_of e) ≡ Some status.Ok) ⊎ ((Some (status_of e) ≡ Some status.Memory) × (Encodes command ⊎ source.unread))))
+      IfSome asked (λ command. IfSome (input_of command source.left) (λ bytes. IsSome (output_of command bytes) → (Some (status_of e) ≡ Some status.Ok) ⊎ ((Some (status_of e) ≡ Some status.Memory) × (Encodes command ⊎ source.unread))))
   complete_done (Some command) e d steady steady_sink = complete_of command e d steady steady_sink
   complete_done None e d steady steady_sink = tt
 
@@ -453,12 +466,12 @@ module _ (source : SourceChange) (sink : SinkChange) where
   untouched_else asked e (inl d) not_ok not_write = untouched_else_done asked e d not_ok not_write
   untouched_else asked e (inr m) not_ok not_write = m.2
 
-  pub refused_untouched : (asked : Option Command) (e : Ending) → Done_or_lacks asked e → IfSome asked (λ command. IfSome source.left (λ bytes. output_of command bytes ≡ None → sink.untouched))
+  pub refused_untouched : (asked : Option Command) (e : Ending) → Done_or_lacks asked e → IfSome asked (λ command. IfSome (input_of command source.left) (λ bytes. output_of command bytes ≡ None → sink.untouched))
   refused_untouched asked e (inl d) = refused_untouched_done asked e d
-  refused_untouched asked e (inr m) = IfSome-always asked _ (λ command. IfSome-always source.left _ (λ bytes none. m.2))
+  refused_untouched asked e (inr m) = IfSome-always asked _ (λ command. IfSome-always (input_of command source.left) _ (λ bytes none. m.2))
 
   pub whole : (asked : Option Command) (e : Ending) → Done_or_lacks asked e → Some (status_of e) ≡ Some status.Ok →
-      IsSomeAnd asked (λ command. IfSome source.left (λ bytes. IsSomeAnd (output_of command bytes) (λ output. Takes sink.taken sink.taken_now output)))
+      IsSomeAnd asked (λ command. IfSome (input_of command source.left) (λ bytes. IsSomeAnd (output_of command bytes) (λ output. Takes sink.taken sink.taken_now output)))
   whole asked e (inl d) is = whole_done asked e d is
   whole asked e (inr m) is = let bad = lacks_status e status.Ok m.0 is in cc
 
@@ -467,6 +480,7 @@ module _ (source : SourceChange) (sink : SinkChange) where
   leaves_unread command None now is = tt
   leaves_unread (Encode words) (Some bytes) now is = record { count = 0; low = omega arith; there = omega arith; rest = is }
   leaves_unread Check (Some bytes) now is = is
+  leaves_unread (Demo words) (Some bytes) now is = is
 
   pub leaves : (source.unread → source.left_now ≡ source.left) → (asked : Option Command) (e : Ending) → Done_or_lacks asked e →
       IfSome asked (λ command. IfSome source.left (λ bytes. Leaves command (status_of e) bytes source.left_now))
@@ -474,7 +488,7 @@ module _ (source : SourceChange) (sink : SinkChange) where
   leaves same asked e (inr m) = rw m.0 (IfSome-always asked _ (λ command. leaves_unread command source.left source.left_now (same m.1)))
 
   pub written : (sink.untouched → Stands sink.taken sink.taken_now) → (asked : Option Command) (e : Ending) → Done_or_lacks asked e →
-      IfSome asked (λ command. IfSome source.left (λ bytes. IfSome (output_of command bytes) (λ output. TakesPrefix sink.taken sink.taken_now output)))
+      IfSome asked (λ command. IfSome (input_of command source.left) (λ bytes. IfSome (output_of command bytes) (λ output. TakesPrefix sink.taken sink.taken_now output)))
   written same asked e (inl d) = written_done same asked e d
   written same asked e (inr m) = IfSome-always asked _ (λ command. front_of_none command (same m.2))
 
@@ -495,19 +509,21 @@ module _ (source : SourceChange) (sink : SinkChange) where
   steady_write same asked e (inr m) other = same m.2
 
   pub complete : (asked : Option Command) (e : Ending) → Done_or_lacks asked e → IsSteady source.faults source.faults_now → IsSteady sink.faults sink.faults_now →
-      IfSome asked (λ command. IfSome source.left (λ bytes. IsSome (output_of command bytes) →
+      IfSome asked (λ command. IfSome (input_of command source.left) (λ bytes. IsSome (output_of command bytes) →
       (Some (status_of e) ≡ Some status.Ok) ⊎ ((Some (status_of e) ≡ Some status.Memory) × (Encodes command ⊎ source.unread))))
   complete asked e (inl d) steady steady_sink = complete_done asked e d steady steady_sink
-  complete asked e (inr m) steady steady_sink = IfSome-always asked _ (λ command. IfSome-always source.left _ (λ bytes some. inr (lacks e m.0, inr m.1)))
+  complete asked e (inr m) steady steady_sink = IfSome-always asked _ (λ command. IfSome-always (input_of command source.left) _ (λ bytes some. inr (lacks e m.0, inr m.1)))
 
   -- ---- statistics
 
   summary_by_end : (command : Command) (e : Ending) → Ends command e source sink → Some (status_of e) ≡ Some status.Ok →
-      IfSome source.left (λ bytes. text_of e ≡ summary_of command bytes)
+      IfSome (input_of command source.left) (λ bytes. text_of e ≡ summary_of command bytes)
   summary_by_end (Encode words) Done d is = IfSome-always source.left _ (λ bytes. rw d.explains.0 refl)
   summary_by_end Check Done d is = IfSome-always source.left _ (λ bytes. refl)
+  summary_by_end (Demo words) Done d is = refl
   summary_by_end (Encode words) (Counted report) d is = IfSome_then source.left d.explains.0.3 (λ bytes same. rw d.explains.0.0 (same_statistics report (frame_number_in bytes) (gains_in words.options.rate bytes) same.frames same.tried d.explains.0.1))
   summary_by_end Check (Counted report) d is = absurd d.explains.0
+  summary_by_end (Demo words) (Counted report) d is = absurd d.explains.0
   summary_by_end command (Refused why) d is = absurd (no_refusal why status.Ok is (λ same. cc) (λ same. cc) (λ same. cc))
   summary_by_end command (Deviates why) d is = cc
   summary_by_end command Usage d is = cc
@@ -517,7 +533,7 @@ module _ (source : SourceChange) (sink : SinkChange) where
 
   -- at success notes are told the summary of the file
   pub summary : (asked : Option Command) (e : Ending) → Done_or_lacks asked e → Some (status_of e) ≡ Some status.Ok →
-      IfSome asked (λ command. IfSome source.left (λ bytes. text_of e ≡ summary_of command bytes))
+      IfSome asked (λ command. IfSome (input_of command source.left) (λ bytes. text_of e ≡ summary_of command bytes))
   summary (Some command) e (inl d) is = summary_by_end command e d is
   summary None e (inl d) is = tt
   summary asked e (inr m) is = let bad = lacks_status e status.Ok m.0 is in cc
@@ -528,10 +544,41 @@ module _ (source : SourceChange) (sink : SinkChange) where
   tell_by notes e command (Some bytes) told is = (rw is at told.front, λ steady. rw is at (told.whole steady))
 
   pub tells_summary : (notes : SinkChange) (asked : Option Command) (e : Ending) → Done_or_lacks asked e → Some (status_of e) ≡ Some status.Ok → AreTold e notes →
-      IfSome asked (λ command. IfSome source.left (λ bytes. TakesPrefix notes.taken notes.taken_now (summary_of command bytes)
+      IfSome asked (λ command. IfSome (input_of command source.left) (λ bytes. TakesPrefix notes.taken notes.taken_now (summary_of command bytes)
       × (IsSteady notes.faults notes.faults_now → Takes notes.taken notes.taken_now (summary_of command bytes))))
-  tells_summary notes (Some command) e d is told = tell_by notes e command source.left told (summary (Some command) e d is)
+  tells_summary notes (Some command) e d is told = tell_by notes e command (input_of command source.left) told (summary (Some command) e d is)
   tells_summary notes None e d is told = tt
+
+  -- ---- the source of a command that reads none
+
+  kept_done : (asked : Option Command) (e : Ending) → Done_so asked e → IfSome asked (λ command. KeepsSource command source)
+  kept_done (Some command) e d = d.kept
+  kept_done None e d = tt
+
+  keeps : (command : Command) → source.unread → KeepsSource command source
+  keeps (Encode words) unread = tt
+  keeps Check unread = tt
+  keeps (Demo words) unread = unread
+
+  pub kept : (asked : Option Command) (e : Ending) → Done_or_lacks asked e → IfSome asked (λ command. KeepsSource command source)
+  kept asked e (inl d) = kept_done asked e d
+  kept asked e (inr m) = IfSome-always asked _ (λ command. keeps command m.1)
+
+  all_left : (left now : Option (List ℕ)) → now ≡ left → IfSome left (λ bytes. now ≡ Some bytes)
+  all_left None now is = tt
+  all_left (Some bytes) now is = is
+
+  -- what the demo did without a source it did beside each that is as it was
+  pub beside : (words : DemoWords) (e : Ending) → Ends (Demo words) e no_source sink → source.left_now ≡ source.left → source.faults_now ≡ source.faults → source.unread →
+      Ends (Demo words) e source sink
+  beside words Done d left same unread = record { explains = d.explains; left = all_left source.left source.left_now left; kept = unread; reads = same; writes = d.writes }
+  beside words (Counted report) d left same unread = absurd d.explains.0
+  beside words (Refused why) d left same unread = absurd d.explains.0
+  beside words (Deviates why) d left same unread = let bad = d.explains.0 in cc
+  beside words ReadFault d left same unread = absurd d.explains.0
+  beside words WriteFault d left same unread = record { explains = d.explains; left = all_left source.left source.left_now left; kept = unread; reads = same; writes = d.writes }
+  beside words Memory d left same unread = record { explains = d.explains; left = all_left source.left source.left_now left; kept = unread; reads = same; writes = d.writes }
+  beside words Usage d left same unread = absurd d.explains
 
 -- what was written is whole where the count of faults was steady
 pub whole_if_steady : {T E : Type 0} (old new : List ℕ → Type 0) (before now : ℕ) (result : Result T E) (text : List ℕ) → IsSteady before now →

@@ -1,4 +1,5 @@
 pub mod Check
+pub mod Demo
 pub mod Program
 pub mod Status
 pub mod Words

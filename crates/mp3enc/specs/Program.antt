@@ -18,41 +18,72 @@ use Rattle.mp3enc.specs.declared.ending.Ending.TheVariants as ending
 use Rattle.mp3enc.specs.declared.process.NoWords.{NoWords}
 use Rattle.mp3enc.specs.declared.process.NoWords.TheVariants as no_words
 use Rattle.mp3enc.specs.declared.words.Command.{Command}
-use Rattle.mp3enc.specs.declared.words.Command.TheVariants.{Encode, Check}
+use Rattle.mp3enc.specs.declared.words.Command.TheVariants.{Encode, Check, Demo}
 use Rattle.mp3enc.specs.Check.{frames_limit, line_in, deviation_in}
+use Rattle.mp3enc.specs.Demo.{digest_line_in, file_for}
 use Rattle.mp3enc.specs.Status.{exit_number, refusal_of, reused_of, statistics_line, status_of, text_of}
 
 -- the head of the file is refused, with this status
 abbrev pub IsRefused : Status → List ℕ → Type 0
 IsRefused s bytes = (why : WavFault) × (wav_of bytes ≡ Err why) × (refusal_of why ≡ s)
 
--- what a command makes of a file: its encoding, or the line of a stream; nothing of a file that it
--- refuses
+-- what a command is given: the file of the source, or, the demo, the file of its own signal
+abbrev pub input_of : Command → Option (List ℕ) → Option (List ℕ)
+input_of (Encode words) left = left
+input_of Check left = left
+input_of (Demo words) left = Some (file_for words)
+
+-- what a command makes of a file: its encoding, or the line of a stream, or the line that tells the
+-- digest of its encoding; nothing of a file that it refuses
 abbrev pub output_of : Command → List ℕ → Option (List ℕ)
 output_of (Encode words) bytes = encoding_in words.options.rate bytes
 output_of Check bytes = line_in bytes
+output_of (Demo words) bytes = digest_line_in words.options.rate bytes
 
--- what it leaves of a file that it takes: what follows the data, or nothing
+-- what it leaves of the source's file where it takes it: what follows the data, or nothing; the
+-- demo all
 abbrev pub rest_of : Command → List ℕ → List ℕ
 rest_of (Encode words) bytes = rest_in bytes
 rest_of Check bytes = []
+rest_of (Demo words) bytes = bytes
 
--- it encodes
+-- it encodes the file of the source
 abbrev pub Encodes : Command → Type 0
 Encodes (Encode words) = ⊤
 Encodes Check = ⊥
+Encodes (Demo words) = ⊥
+
+-- it reads the source
+abbrev pub Reads : Command → Type 0
+Reads (Encode words) = ⊤
+Reads Check = ⊤
+Reads (Demo words) = ⊥
+
+-- it needs memory
+abbrev pub NeedsMemory : Command → Type 0
+NeedsMemory (Encode words) = ⊤
+NeedsMemory Check = ⊥
+NeedsMemory (Demo words) = ⊤
+
+-- the source is as it was, where the command does not read it
+abbrev pub KeepsSource : Command → SourceChange → Type 0
+KeepsSource (Encode words) source = ⊤
+KeepsSource Check source = ⊤
+KeepsSource (Demo words) source = source.unread
 
 -- what is left where a read failed: of head and data some is gone, or some whole frames and less
 -- than one more
 abbrev pub LeavesMidway : Command → List ℕ → Option (List ℕ) → Type 0
 LeavesMidway (Encode words) bytes now = HasReadSome bytes now
 LeavesMidway Check bytes now = HasStopped frames_limit bytes stream.Read now
+LeavesMidway (Demo words) bytes now = ⊥
 
 -- what is left where there was no memory: of head and data some is gone; a command that needs none
 -- for them has read nothing
 abbrev pub LeavesUnread : Command → List ℕ → Option (List ℕ) → Type 0
 LeavesUnread (Encode words) bytes now = HasReadSome bytes now
 LeavesUnread Check bytes now = now ≡ Some bytes
+LeavesUnread (Demo words) bytes now = now ≡ Some bytes
 
 -- what a command leaves of a file, by its status: of a refused head what follows the bytes that
 -- refuse it; of a stream that deviates what follows the frame at which it does, or its header where
@@ -81,6 +112,7 @@ failed_writes_at other before = before
 abbrev pub HasNoStatistics : Command → Type 0
 HasNoStatistics (Encode words) = words.stats ≡ false
 HasNoStatistics Check = ⊤
+HasNoStatistics (Demo words) = ⊤
 
 -- the words ask for statistics, and these are the file's: on one thread each count is made, and
 -- none reused
@@ -89,6 +121,7 @@ HasStatistics (Encode words) report source = (words.stats ≡ true) × (report.m
     × (report.made + reused_of report ≡ report.tried)
     × IfSome source.left (λ bytes. IsReport words.options.rate bytes report)
 HasStatistics Check report source = ⊥
+HasStatistics (Demo words) report source = ⊥
 
 -- what notes are told of a file at success: statistics where they are asked for, and else nothing
 abbrev pub statistics_if : Bool → Rate → List ℕ → List ℕ
@@ -98,30 +131,37 @@ statistics_if false rate bytes = []
 abbrev pub summary_of : Command → List ℕ → List ℕ
 summary_of (Encode words) bytes = statistics_if words.stats words.options.rate bytes
 summary_of Check bytes = []
+summary_of (Demo words) bytes = []
 
 -- what an ending of a command says of the file and of the bytes that were written
 abbrev pub ExplainsEnding : Command → Ending → SourceChange → SinkChange → Type 0
-ExplainsEnding command ending.Done source sink = HasNoStatistics command × IfSome source.left (λ bytes.
+ExplainsEnding command ending.Done source sink = HasNoStatistics command × IfSome (input_of command source.left) (λ bytes.
     IsSomeAnd (output_of command bytes) (λ output. Takes sink.taken sink.taken_now output))
-ExplainsEnding command (ending.Counted report) source sink = HasStatistics command report source × IfSome source.left (λ bytes.
+ExplainsEnding command (ending.Counted report) source sink = HasStatistics command report source × IfSome (input_of command source.left) (λ bytes.
     IsSomeAnd (output_of command bytes) (λ output. Takes sink.taken sink.taken_now output))
 ExplainsEnding command (ending.Refused why) source sink =
     Encodes command × IfSome source.left (λ bytes. wav_of bytes ≡ Err why) × (why ≢ fault.Read) × sink.untouched
 ExplainsEnding command (ending.Deviates why) source sink =
     (command ≡ Check) × IfSome source.left (λ bytes. deviation_in bytes ≡ Some why)
     × (why ≢ stream.Read) × (why ≢ stream.Memory) × sink.untouched
-ExplainsEnding command ending.ReadFault source sink = sink.untouched
-ExplainsEnding command ending.WriteFault source sink = IfSome source.left (λ bytes.
+ExplainsEnding command ending.ReadFault source sink = Reads command × sink.untouched
+ExplainsEnding command ending.WriteFault source sink = IfSome (input_of command source.left) (λ bytes.
     IsSomeAnd (output_of command bytes) (λ output. TakesPrefix sink.taken sink.taken_now output))
-ExplainsEnding command ending.Memory source sink = Encodes command × IfSome source.left IsAccepted × sink.untouched
+ExplainsEnding command ending.Memory source sink =
+    NeedsMemory command × IfSome (input_of command source.left) IsAccepted × sink.untouched
 ExplainsEnding command ending.Usage source sink = ⊥
 
--- a command ended so: what it wrote, what it left of the file, and which faults were counted
+-- a command ended so: what it wrote, what it left of the source's file, and which faults were counted
 pub record Ends (command : Command) (ending : Ending) (source : SourceChange) (sink : SinkChange) : Type 0 where
   pub explains : ExplainsEnding command ending source sink
   pub left : IfSome source.left (λ bytes. Leaves command (status_of ending) bytes source.left_now)
+  pub kept : KeepsSource command source
   pub reads : source.faults_now ≡ failed_reads_at ending source.faults
   pub writes : sink.faults_now ≡ failed_writes_at ending sink.faults
+
+-- no source at all
+abbrev pub no_source : SourceChange
+no_source = record { left = None; left_now = None; faults = 0; faults_now = 0; unread = ⊤ }
 
 -- it ended so, and nothing was read or written
 abbrev pub EndsUntouched : Ending → SourceChange → SinkChange → Ending → Type 0
@@ -143,7 +183,7 @@ MayCome asked status.Usage = asked ≡ None
 MayCome asked status.BadWav = IsSomeAnd asked Encodes
 MayCome asked status.Unsupported = IsSomeAnd asked Encodes
 MayCome asked status.BadStream = asked ≡ Some Check
-MayCome asked status.ReadFault = IsSomeAnd asked (λ command. ⊤)
+MayCome asked status.ReadFault = IsSomeAnd asked Reads
 MayCome asked status.WriteFault = IsSomeAnd asked (λ command. ⊤)
 MayCome asked status.Memory = ⊤
 

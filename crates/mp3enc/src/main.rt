@@ -1,10 +1,12 @@
 //! WAV on standard input -> MP3 on standard output, or an MP3 stream -> whether and how far it can
-//! be read; how it ended -> standard error and the exit status.
+//! be read, or a number -> the digest of a stream; how it ended -> standard error and the exit
+//! status.
 //!
-//! Before: `l3_encoder`, `l3_reader`. After: nothing; this is the program.
+//! Before: `l3_encoder`, `l3_reader`, `l3_demo`. After: nothing; this is the program.
 #![tactic(auto)]
 
 mod check;
+mod demo;
 mod ending;
 mod process;
 mod program;

@@ -415,6 +415,22 @@ fn check_with_faults(rt: HostRuntime) -> Result<(), Fail> {
     Ok(())
 }
 
+#[test]
+fn demo_of_one_frame(rt: HostRuntime) -> Result<(), Fail> {
+    let line =
+        b"frames 2 bytes 835 sha256 239a087f9534db4f34903a8e9f223ee9f85300d56a5cd08516f4694c0959df17\n";
+    let (status, sink, notes, mut source) = run(&rt, &["demo", "1", "0"], &HEAD, 100, &[0])?;
+    assert_eq!(rt; status, Some(Status::Ok));
+    assert_eq!(rt; sink.bytes(), line.as_slice());
+    assert_eq!(rt; notes.bytes().len(), 0);
+    assert!(rt; left(&mut source).is_none());
+    let (status, sink, notes, _) = run(&rt, &["demo", "1", "0"], &HEAD, 8, &[])?;
+    assert_eq!(rt; status, Some(Status::WriteFault));
+    assert_eq!(rt; sink.bytes(), b"frames 2".as_slice());
+    assert_eq!(rt; notes.bytes(), b"mp3enc: write fault\n".as_slice());
+    Ok(())
+}
+
 // Whether words are refused, with nothing read and nothing written.
 fn is_refused(rt: &HostRuntime, words: &[&str]) -> Result<bool, AllocError> {
     let (status, sink, notes, mut source) = run(rt, words, &HEAD, 10000, &[])?;
@@ -432,6 +448,7 @@ fn words_refused(rt: HostRuntime) -> Result<(), Fail> {
     assert!(rt; is_refused(&rt, &[])?);
     assert!(rt; is_refused(&rt, &["encode", "--rate", "100"])?);
     assert!(rt; is_refused(&rt, &["encode", "--guess", "4"])?);
+    assert!(rt; is_refused(&rt, &["demo", "0", "1"])?);
     Ok(())
 }
 

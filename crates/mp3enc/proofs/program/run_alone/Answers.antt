@@ -59,6 +59,9 @@ returns-clause-refused_untouched g c = lemmas.refused_untouched (of_source g c) 
 pub returns-clause-left : goal.returns-clause-left
 returns-clause-left g c = rw c.tell.ensures.status (lemmas.leaves (of_source g c) (of_sink g c) (ap g.S.Source.left) _ c.outcome-ending.result (did g c))
 
+pub returns-clause-kept : goal.returns-clause-kept
+returns-clause-kept g c = lemmas.kept (of_source g c) (of_sink g c) _ c.outcome-ending.result (did g c)
+
 pub returns-clause-cause_read : goal.returns-clause-cause_read
 returns-clause-cause_read g c = λ is. lemmas.read_fault (of_source g c) (of_sink g c) _ c.outcome-ending.result (did g c) (rw c.tell.ensures.status at is)
 

@@ -1,4 +1,4 @@
-use Rattle.std.proofs.Common.{rules, ◌≡◌, ◌<◌, ◌≤◌, ◌+◌, ◌-◌, ◌++◌, ap, refl, length, drop, arith}
+use Rattle.std.proofs.Common.{rules, ◌≡◌, ◌<◌, ◌≤◌, ◌+◌, ◌-◌, ◌++◌, refl, length, drop}
 use Rattle.l3_demo.specs.Demo.{after, samples_after}
 use Rattle.l3_demo.proofs.SampleLemmas.{all_gone, given, refilled}
 use Rattle.l3_demo.proofs.source.DemoSourceSource.read.Goals as goal

@@ -1,14 +1,16 @@
-use Rattle.std.proofs.Common.{◌≡◌, ◌+◌, false, nat_lt, refl, sym, subst}
+use Rattle.std.proofs.Common.{◌≡◌, ◌+◌, ◌*◌, ◌<◌, ◌≤◌, false, drop, length, nat_lt, refl, sym, subst, arith}
 use Rattle.l3_windows.specs.Holding.{WindowsView, GoesOn}
 use Rattle.l3_windows.proofs.HoldLemmas.{goes-on-by}
+use Rattle.l3_windows.proofs.ReadLemmas.{reads-behind, stands, stands-right}
 use Rattle.l3_windows.proofs.at_hand.Windows.read_some.Goals as goal
 
 pub returns-clause-content : goal.returns-clause-content
 returns-clause-content g c =
     let left = g.S.Source.left in
     let w = c.self.inside in
+    let k = 576 * w.stale in
     let is_short = nat_lt c.in_ok-count.count c.min-room.result in
-    let old : WindowsView = record { channels = w.channels; ahead = w.ahead; base = w.base; read = w.read; ended = w.ended; samples = w.samples; left = w.left.items; right = w.right.items } in
+    let old : WindowsView = record { channels = w.channels; ahead = w.ahead; base = w.base; read = w.read; ended = w.ended; samples = w.samples; left = drop k w.left.items; right = drop k w.right.items } in
     let new : WindowsView = record {
       channels = w.channels;
       ahead = w.ahead;
@@ -16,9 +18,13 @@ returns-clause-content g c =
       read = w.read + c.in_ok-count.count;
       ended = is_short;
       samples = c.read_block.new.samples;
-      left = c.read_block.new.left.items;
-      right = c.read_block.new.right.items;
+      left = drop k c.read_block.new.left.items;
+      right = drop k c.read_block.new.right.items;
     } in
     let going : w.ended ≡ false = subst (λ (v : WindowsView). v.ended ≡ false) (sym c.self.view_is) c.requires.going in
+    let near : 576 * w.base ≤ w.read = c.self.invariant.near going in
+    let some : 0 < length (drop k w.left.items) = omega (arith, near, c.self.invariant.left_long) in
     subst (λ (v : WindowsView). GoesOn v new (left c.args.source.now) (left c.read_block.new.source)) c.self.view_is
-    (goes-on-by old new (left c.args.source.now) (left c.read_block.new.source) c.in_ok-count.count is_short refl refl refl refl going (c.self.invariant.near going) c.in_ok-count.ensures.content)
+    (goes-on-by old new (left c.args.source.now) (left c.read_block.new.source) c.in_ok-count.count is_short refl refl refl refl going near
+    (reads-behind k w.channels c.in_ok-count.count is_short w.samples c.read_block.new.samples (left c.args.source.now) (left c.read_block.new.source) w.left.items c.read_block.new.left.items w.right.items c.read_block.new.right.items
+    (stands w.left.items k (length (drop k w.left.items)) refl some) (stands-right w.channels w.left.items w.right.items k c.self.invariant.right_long some) c.in_ok-count.ensures.content))
