@@ -9,3 +9,5 @@ pub mod Standings
 pub mod Windows
 pub mod Encodings
 pub mod Rests
+pub mod Offering
+pub mod RunLemmas

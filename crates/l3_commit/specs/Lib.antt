@@ -9,3 +9,5 @@ pub mod Laws
 pub mod Tracks
 pub mod Standing
 pub mod Resting
+pub mod Ahead
+pub mod Running

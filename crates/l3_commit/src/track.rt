@@ -1,4 +1,4 @@
-ghost use Rattle.std.specs.Prelude.{◌≡◌, ◌+◌, ◌-◌, ◌*◌, ◌≤◌, ◌<◌, ◌^◌, ◌++◌, ◌∷◌, [], ℕ, List, take, length};
+ghost use Rattle.std.specs.Prelude.{◌≡◌, ◌+◌, ◌-◌, ◌*◌, ◌≤◌, ◌<◌, ◌^◌, ◌++◌, ◌∷◌, [], ℕ, List, take, length, min};
 ghost use Rattle.std.specs.Borrow.{sem};
 ghost use Rattle.l3_base.specs.Lengths.{mmax_of, slots_before};
 ghost use Rattle.l3_reservoir.specs.Budget.{begin_after};
@@ -79,6 +79,13 @@ impl Track {
         ensures { result ≡ self.now.settings.channels }
     {
         self.settings.channels
+    }
+
+    // The reserve before the granule that comes next, in bits, and 4294967295 where there is more.
+    pub(crate) fn reserve_bits(&self) -> u32
+        ensures { result ≡ min self.now.reserve 4294967295 }
+    {
+        self.reserve.bits()
     }
 
     /// The number of the granule that comes next.
