@@ -1,0 +1,3 @@
+pub mod Pushed
+pub mod Counts
+pub mod Loop

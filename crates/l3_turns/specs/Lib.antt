@@ -1,0 +1,3 @@
+pub use Rattle.l3_commit.specs.Encoding
+pub mod Turning
+pub mod Answers
