@@ -2,8 +2,7 @@
 //! back in order.
 //!
 //! Before: `l3_core`, the board as a machine in one thread. After: `l3_lanes`, the same trait
-//! without locks; the encoder on several threads will have the desk. All of it is this project's
-//! own.
+//! without locks; `l3_encoder`, whose committer has the desk. All of it is this project's own.
 //!
 //! Contracts say what an answer means: which item it hands out or back, and how it moves the desk's
 //! record and a seat's claim. Which answer a `LockBoard` gives, and that its bells wake those who
@@ -20,8 +19,6 @@ pub use crate::desk::DeskRecord;
 pub use crate::entry::Entry;
 pub use crate::lock::{LockBoard, LockDesk, LockSeat};
 
-#[cfg(test)]
-mod running;
 #[cfg(test)]
 mod tests;
 #[cfg(test)]

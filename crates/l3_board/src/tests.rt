@@ -1,6 +1,5 @@
 ghost use Rattle.std.specs.Prelude.{◌≡◌, ◌≤◌, ◌<◌, IfOk, IfSome, vec_len};
 
-use crate::running::{Committer, Piece, Sink, encode_with};
 use crate::{Board, Entry, LockBoard, LockDesk};
 use l3_base::GranuleNo;
 use l3_core::{Claim, Deposit, Numbered, Offer, Take};
@@ -153,50 +152,5 @@ fn board_of_one_cell(rt: HostRuntime) -> Result<(), Fail> {
         ("revoked", 3)
     );
     assert_eq!(rt; kept(&desk, 0), (Entry::Free, 1, 3));
-    Ok(())
-}
-
-impl Piece for Item {
-    fn load(&mut self, number: GranuleNo) {
-        self.number = number.get();
-        self.mark = 1;
-    }
-
-    fn presume(&mut self) {
-        self.mark = 2;
-    }
-}
-
-// Counts the granules that are put, up to its room.
-#[derive(Drop)]
-struct Counted {
-    count: u64,
-    room: u64,
-}
-
-impl Sink for Counted {
-    fn put(&mut self, number: u64) -> bool {
-        if number != self.count || self.count >= self.room {
-            return false;
-        }
-        self.count = self.count.saturating_add(1);
-        true
-    }
-}
-
-#[test]
-fn workers_beside_the_committer(rt: HostRuntime) -> Result<(), Fail> {
-    for (room, whole, served) in [(100, true, 100), (3, false, 4)] {
-        let blanks = blanks(rt.alloc(), 4)?.ok_or("no blanks")?;
-        let mut committer = Committer {
-            base: 0,
-            total: 100,
-            piece: Some(marked(0, 99)),
-        };
-        let mut sink = Counted { count: 0, room };
-        let ended = encode_with(&rt, rt.alloc(), 2, blanks, &mut committer, &mut sink)?;
-        assert_eq!(rt; ended, (whole, served));
-        assert_eq!(rt; sink.count, room);
-    }
     Ok(())
 }

@@ -5,9 +5,8 @@ pub mod Taking
 pub mod OfPiece
 pub mod Keeping
 pub mod Tracking
+pub mod Progress
 pub mod Standings
-pub mod Windows
 pub mod Encodings
 pub mod Rests
 pub mod Offering
-pub mod RunLemmas

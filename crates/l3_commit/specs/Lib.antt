@@ -10,4 +10,3 @@ pub mod Tracks
 pub mod Standing
 pub mod Resting
 pub mod Ahead
-pub mod Running

@@ -3,8 +3,6 @@ use Rattle.std.specs.Io.BufRead.{Rests}
 use Rattle.std.specs.Borrow.{MutBor, Fml}
 use Rattle.l3_commit.specs.Tracks.{TrackView}
 use Rattle.l3_commit.specs.Standing.{CommitterView}
-use Rattle.l3_commit.specs.Running.{RunningView}
-use Rattle.l3_commit.specs.contracts.running.Running.{the_row as running_row}
 use Rattle.l3_commit.specs.contracts.committer.Committer.{the_row as committer_row}
 use Rattle.l3_commit.specs.contracts.track.Track.{the_row}
 
@@ -16,7 +14,3 @@ RestsTrack s P = Rests the_row s P
 -- the same of a committer
 abbrev pub RestsCommitter : MutBor CommitterView → (CommitterView → Type 0) → Fml
 RestsCommitter s P = Rests committer_row s P
-
--- and of one over samples as they come
-abbrev pub RestsRunning : MutBor RunningView → (RunningView → Type 0) → Fml
-RestsRunning s P = Rests running_row s P

@@ -1,51 +1,27 @@
--- A committer stands for settings and samples.
-use Rattle.std.specs.Prelude.{◌≡◌, ℕ, ◌≤◌, Bool, true, false, List, [], ◌∷◌, length, ℤ}
+-- A committer over samples as they come, and over any board, stands for settings and samples.
+use Rattle.std.specs.Prelude.{◌≡◌, ℕ, ◌+◌, ◌≤◌, max, min, Bool, true, List, [], ◌∷◌, length, ℤ, Option, Some, None, IfSome, IsSomeAnd, if◌then◌else◌, is_some}
 use Rattle.l3_base.specs.declared.settings.Settings.{Settings}
 use Rattle.l3_base.specs.declared.rate.Channels.{Channels}
 use Rattle.l3_base.specs.declared.rate.Channels.TheVariants.{Mono, Stereo}
-use Rattle.l3_base.specs.declared.slots.Window.{Window}
 use Rattle.l3_base.specs.Lengths.{granules_for}
-use Rattle.l3_mdct.specs.Spectrum.{spectrum_of_granule}
+use Rattle.l3_analysis.specs.Piece.{PieceView, HasSpectra, blank_of, spectrum_in}
+use Rattle.l3_offers.specs.Offers.{OffersView}
+use Rattle.l3_windows.specs.Holding.{WindowsView, Holds}
 use Rattle.l3_stream.specs.declared.unit.Unit.{Unit}
 use Rattle.l3_commit.specs.Choice.{Spectra, reserve_at_start, reserve_between, reserve_at_end, first_granule, second_granule, begin_before}
-use Rattle.l3_commit.specs.Encoding.{of_channel, spectra_of}
-use Rattle.l3_analysis.specs.declared.stage.Stage.TheVariants.{Transformed}
-use Rattle.l3_analysis.specs.Piece.{PieceView, no_memos}
-use Rattle.l3_commit.specs.Tracks.{TrackView, next_of, with_granule, with_frame_ended}
+use Rattle.l3_commit.specs.Encoding.{spectra_of}
+use Rattle.l3_commit.specs.Tracks.{TrackView, next_of, with_frame_ended}
 
 -- a committer as contracts see it
 pub record CommitterView : Type 0 where
   pub track : TrackView
-  pub left : List ℤ
-  pub right : List ℤ
-  -- the spectra of the granule that comes next are at hand; in mono the right one does not count
+  pub windows : WindowsView
+  -- the granules that it has on a board; without a board there are no cells
+  pub offers : OffersView
+  -- its own piece
+  pub own : PieceView
+  -- which is that of the granule that comes next, and has its spectra
   pub is_ready : Bool
-  pub left_lines : List ℤ
-  pub right_lines : List ℤ
-
--- a piece is that of the granule that comes next, transformed and with no counts
--- (only the inside of this crate)
-pub record IsAtHand (t : TrackView) (p : PieceView) : Type 0 where
-  pub number_is : p.number ≡ next_of t
-  pub stage_is : p.stage ≡ Transformed
-  pub memos_are : p.memos ≡ no_memos
-
--- a committer's piece is made under its track's settings, and where it is ready it is the next
--- granule's; the window that the next piece is made of keeps the right channel's samples in mono
--- (only the inside of this crate)
-pub record HasOwn (t : TrackView) (window : Window) (own : PieceView) (is_ready : Bool) : Type 0 where
-  pub settings_are : own.settings ≡ t.settings
-  pub right_is : window.right ≡ own.window.right
-  pub at_hand : is_ready ≡ true → IsAtHand t own
-
--- so many samples of the right channel go with so many of the left one
-abbrev pub IsRightOf : Channels → (left right : List ℤ) → Type 0
-IsRightOf Mono left right = length right ≡ 0
-IsRightOf Stereo left right = length right ≡ length left
-
--- how many granules are to be committed
-abbrev pub total_of : CommitterView → ℕ
-total_of c = granules_for (length c.left)
 
 -- the units of frame n, so far as its granules are committed, and the reserve that they left. After
 -- the second granule the frame is not ended yet: its reserve is that before its end
@@ -67,39 +43,45 @@ abbrev pub AreSameSpectra : Channels → (lines others : ℕ → List ℤ) → T
 AreSameSpectra Mono lines others = lines 0 ≡ others 0
 AreSameSpectra Stereo lines others = (lines 0 ≡ others 0) × (lines 1 ≡ others 1)
 
--- the spectra at hand
-abbrev pub spectra_at_hand : CommitterView → ℕ → List ℤ
-spectra_at_hand c = of_channel c.left_lines c.right_lines
+-- the granules from the next one on that are to be on offer end here: as many as the board has
+-- cells, and none behind the last
+abbrev pub offers_end : CommitterView → ℕ
+offers_end c =
+    let far = next_of c.track + length c.offers.placed in if c.windows.ended then min (granules_for c.windows.read) far else far
 
--- its settings, its samples, where its choice of frames stands, and what it has at hand
-pub record StandsFor (c : CommitterView) (st : Settings) (left right : List ℤ) : Type 0 where
-  pub left_is : c.left ≡ left
-  pub right_is : c.right ≡ right
+-- its settings and the samples, of which the bytes still hold the rest; where its choice of frames
+-- stands, and what it has at hand
+pub record StandsFor (c : CommitterView) (bytes : List ℕ) (st : Settings) (left right : List ℤ) : Type 0 where
+  pub holds : Holds c.windows bytes left right
   pub within : next_of c.track ≤ granules_for (length left)
   pub progress : IsProgress st (spectra_of left right) c.track
-  pub ready : c.is_ready ≡ true → AreSameSpectra st.channels (spectra_at_hand c) (spectra_of left right (next_of c.track))
-
--- in mono the right spectrum stays, and else it is the new one
-abbrev pub right_lines_of : Channels → (old new : List ℤ) → List ℤ
-right_lines_of Mono old new = old
-right_lines_of Stereo old new = new
-
--- with the spectra of the next granule at hand
-abbrev pub gathered : CommitterView → CommitterView
-gathered c = record c {
-  is_ready = true;
-  left_lines = spectrum_of_granule c.left (next_of c.track);
-  right_lines = right_lines_of c.track.settings.channels c.right_lines (spectrum_of_granule c.right (next_of c.track));
-}
-
--- after the granule was committed
-abbrev pub granule_committed : CommitterView → CommitterView
-granule_committed c = record c { is_ready = false; track = with_granule c.track (spectra_at_hand c) }
-
--- after the frame was ended
-abbrev pub frame_committed : CommitterView → CommitterView
-frame_committed c = record c { track = with_frame_ended c.track }
+  pub ready : c.is_ready ≡ true → AreSameSpectra st.channels (spectrum_in c.own) (spectra_of left right (next_of c.track))
 
 -- whatever the one stood for, the other stands for
-abbrev pub StillStands : (old new : CommitterView) → Type 0
-StillStands old new = (st : Settings) (left right : List ℤ) → StandsFor old st left right → StandsFor new st left right
+abbrev pub StillStands : (old new : CommitterView) → (bytes now : List ℕ) → Type 0
+StillStands old new bytes now = (st : Settings) (left right : List ℤ) → StandsFor old bytes st left right → StandsFor new now st left right
+
+-- the same where the source tells what it has left
+abbrev pub StandsOn : (old new : CommitterView) → (left_old left_new : Option (List ℕ)) → Type 0
+StandsOn old new left_old left_new = IfSome left_old (λ bytes. IsSomeAnd left_new (λ now. StillStands old new bytes now))
+
+-- after its frame was ended
+abbrev pub with_ended : CommitterView → CommitterView
+with_ended c = record c { track = with_frame_ended c.track }
+
+-- its own piece, where it is not out
+-- (only the inside of this crate)
+abbrev pub own_in : Settings → Option PieceView → PieceView
+own_in st None = blank_of st
+own_in st (Some p) = p
+
+-- what it keeps between calls
+-- (only the inside of this crate)
+pub record IsCommitter (st : Settings) (t : TrackView) (w : WindowsView) (o : OffersView) (own : Option PieceView) (is_ready : Bool) : Type 0 where
+  pub settings_are : t.settings ≡ st
+  pub there : is_some own ≡ true
+  pub few : length o.placed ≤ 64
+  pub ahead : w.ahead ≡ max 1 (length o.placed)
+  pub number_is : is_ready ≡ true → (own_in st own).number ≡ next_of t
+  pub own_settings : is_ready ≡ true → (own_in st own).settings ≡ st
+  pub made : is_ready ≡ true → HasSpectra (own_in st own).stage

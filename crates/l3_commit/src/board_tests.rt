@@ -2,7 +2,7 @@ ghost use Rattle.std.specs.Prelude.{◌≡◌, ◌<◌, [], All, IfOk, IfSome, N
 ghost use Rattle.l3_base.specs.declared.rate.Channels.TheVariants.{Mono};
 ghost use Rattle.l3_offers.specs.Offers.{GoesWith};
 
-use crate::{GranuleDone, Running};
+use crate::{Committer, GranuleDone};
 use l3_analysis::{Piece, PieceBox, Stage};
 use l3_base::{Channels, Rate, SampleRate, Settings, Steps};
 use l3_board::{Board, LockBoard, LockSeat};
@@ -86,7 +86,7 @@ fn work<L: Ledger + Send>(piece: &mut Piece, steps: &mut Steps<L>) -> bool
 // Has granule 0 made by a worker under this guess, and commits it: whether its piece was loaded with
 // this one sample, and what it took.
 fn handed_on<S: Source, B: Board<Item = PieceBox>, L: Ledger + Send>(
-    committer: &mut Running,
+    committer: &mut Committer,
     board: &B,
     desk: &mut B::Desk,
     seat: &mut B::Seat,
@@ -148,7 +148,7 @@ fn first_of<R: Wait, L: Ledger + Send>(
     };
     fresh_desks();
     let mut source = MemSource::new(alloc, &sample.to_le_bytes(), 1, &[])?;
-    let mut committer = Running::open(alloc, settings(), 2, one_sample())?;
+    let mut committer = Committer::open(alloc, settings(), 2, one_sample())?;
     let mut steps: Steps<L> = Steps::start(blank);
     Ok(handed_on(
         &mut committer,

@@ -14,15 +14,12 @@ mod committer;
 mod fitting;
 mod laws;
 mod report;
-mod running;
 mod track;
 mod unit;
-mod window;
 
 pub use committer::Committer;
 pub use laws::{chosen_frames_are_alone, chosen_frames_fit};
 pub use report::{EncodeFault, Report};
-pub use running::Running;
 pub use track::{GranuleDone, Track};
 pub use unit::chosen_units_are_coded;
 

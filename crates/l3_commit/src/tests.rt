@@ -1,14 +1,11 @@
-ghost use Rattle.std.specs.Prelude.{◌≡◌, ◌<◌, ◌≤◌, IfOk, length, false};
+ghost use Rattle.std.specs.Prelude.{[], ◌≡◌, ◌+◌, ◌*◌, ◌<◌};
 ghost use Rattle.l3_analysis.specs.declared.stage.Stage.TheVariants.{Transformed};
-ghost use Rattle.l3_commit.specs.Standing.{IsRightOf};
 
-use crate::{Committer, GranuleDone, Track};
+use crate::{GranuleDone, Track};
 use l3_analysis::Piece;
 use l3_base::{Channels, GranuleNo, Rate, SampleRate, Settings, Steps, Window};
 use l3_stream::QuadTable::{A, B};
 use l3_stream::{QuadTable, Unit};
-use l3_wav::Pcm;
-use std::alloc::{AllocError, Global};
 use std::marker::Brand;
 use std::sync::ledger::{Blank, Ledger};
 
@@ -35,20 +32,62 @@ fn numbers(unit: &Unit) -> Numbers {
     )
 }
 
-// The next frame.
-fn next_frame<L: Ledger + Send>(committer: &mut Committer, steps: &mut Steps<L>) -> Option<Frame>
-    requires start { length committer.old.track.granules ≡ 0 }
-    requires ready { committer.old.is_ready ≡ false }
-    ensures start { length committer.new.track.granules ≡ 0 }
-    ensures ready { committer.new.is_ready ≡ false }
+// The sample so many places behind the one 1056 before the first, 0 where there is none.
+fn sample(samples: &[i16; 2304], place: u64) -> i16 {
+    match samples.get(place.saturating_sub(1056) as usize) {
+        Some(&value) if place >= 1056 => value,
+        _ => 0,
+    }
+}
+
+// A granule's piece of these samples, transformed.
+fn piece_of(
+    settings: Settings,
+    number: GranuleNo,
+    left: &[i16; 2304],
+    right: &[i16; 2304],
+) -> Piece
+    ensures number { result.number ≡ number }
+    ensures stage { result.stage ≡ Transformed }
+    ensures settings { result.settings ≡ settings }
 {
-    // For the proof alone: that there is a next granule.
-    let _number = committer.next()?;
-    committer.gather_alone();
-    let first = committer.commit_granule(steps);
-    committer.gather_alone();
-    let second = committer.commit_granule(steps);
-    let frame = committer.commit_frame();
+    let mut window = Window {
+        left: [0; 1632],
+        right: [0; 1632],
+    };
+    for n in 0..1632_usize {
+        let place = 576 * number.get() + n as u64;
+        window.left[n] = sample(left, place);
+        window.right[n] = sample(right, place);
+    }
+    let mut piece = Piece::blank(settings);
+    piece.load(number, &window, 0);
+    piece.transform();
+    piece
+}
+
+// The next frame of these samples, whose first granule has this number.
+fn next_frame<L: Ledger + Send>(
+    track: &mut Track,
+    settings: Settings,
+    number: u64,
+    left: &[i16; 2304],
+    right: &[i16; 2304],
+    steps: &mut Steps<L>,
+) -> Option<Frame>
+    requires settings { settings ≡ track.old.settings }
+    requires number { number ≡ 2 * track.old.frame }
+    requires limit { number < 1000 }
+    requires start { track.old.granules ≡ [] }
+    ensures settings { track.new.settings ≡ track.old.settings }
+    ensures number { track.new.frame ≡ track.old.frame + 1 }
+    ensures start { track.new.granules ≡ [] }
+{
+    let mut piece = piece_of(settings, GranuleNo::new(number)?, left, right);
+    let first = track.commit_granule(&mut piece, steps);
+    let mut piece = piece_of(settings, GranuleNo::new(number + 1)?, left, right);
+    let second = track.commit_granule(&mut piece, steps);
+    let frame = track.commit_frame();
     let [[a, b], [c, d]] = &frame.units;
     Some((
         frame.begin,
@@ -57,64 +96,36 @@ fn next_frame<L: Ledger + Send>(committer: &mut Committer, steps: &mut Steps<L>)
     ))
 }
 
-// The frames of these samples, counted by a counter of
-// their own: the first four where there are as many.
-fn frames<L: Ledger + Send>(blank: Blank, settings: Settings, pcm: Pcm) -> [Option<Frame>; 4]
+// The three frames of these samples, counted by a counter of their own.
+fn frames<L: Ledger + Send>(
+    blank: Blank,
+    settings: Settings,
+    left: &[i16; 2304],
+    right: &[i16; 2304],
+) -> [Option<Frame>; 3]
     requires name { blank.name ≡ L.name }
     requires parts { blank.parts ≡ L.parts }
     requires some { 0 < blank.parts }
-    requires few { length pcm.left.items ≤ 2147483647 }
-    requires shape { IsRightOf settings.channels pcm.left.items pcm.right.items }
 {
     let mut steps: Steps<L> = Steps::start(blank);
-    let mut committer = Committer::open(settings, pcm);
-    let first = next_frame(&mut committer, &mut steps);
-    let second = next_frame(&mut committer, &mut steps);
-    let third = next_frame(&mut committer, &mut steps);
-    let fourth = next_frame(&mut committer, &mut steps);
-    [first, second, third, fourth]
-}
-
-// 2304 samples of one channel, all 0 but sample 700.
-fn impulse(alloc: Global) -> Result<Pcm, AllocError>
-    ensures few { IfOk result (λ pcm. length pcm.left.items ≤ 2147483647) }
-    ensures shape { IfOk result (λ pcm. length pcm.right.items ≡ 0) }
-{
-    let mut left = Vec::new(alloc);
-    for n in 0..2304usize {
-        left.push(if n == 700 { 32767 } else { 0 })?;
-    }
-    Ok(Pcm {
-        left,
-        right: Vec::new(alloc),
-    })
-}
-
-// 2304 samples of two channels, the right at half the
-// left: seven steps of 97 samples each, again and again.
-fn steps(alloc: Global) -> Result<Pcm, AllocError>
-    ensures few { IfOk result (λ pcm. length pcm.left.items ≤ 2147483647) }
-    ensures shape { IfOk result (λ pcm. length pcm.right.items ≡ length pcm.left.items) }
-{
-    let mut left = Vec::new(alloc);
-    let mut right = Vec::new(alloc);
-    for n in 0..2304 {
-        let step = STEPS[n / 97 % 7];
-        left.push(step)?;
-        right.push(step / 2)?;
-    }
-    Ok(Pcm { left, right })
+    let mut track = Track::new(settings);
+    let first = next_frame(&mut track, settings, 0, left, right, &mut steps);
+    let second = next_frame(&mut track, settings, 2, left, right, &mut steps);
+    let third = next_frame(&mut track, settings, 4, left, right, &mut steps);
+    [first, second, third]
 }
 
 #[test]
-fn units_of_an_impulse(rt: HostRuntime) -> Result<(), AllocError> {
+fn units_of_an_impulse(rt: HostRuntime) {
     let settings = Settings {
         rate: Rate::K128,
         sample_rate: SampleRate::Hz44100,
         channels: Channels::Mono,
     };
-    let pcm = impulse(rt.alloc())?;
-    let found = frames::<Brand>(Blank::new(1), settings, pcm);
+    // All 0 but sample 700.
+    let mut left = [0; 2304];
+    left[700] = 32767;
+    let found = frames::<Brand>(Blank::new(1), settings, &left, &[0; 2304]);
     let expected = [
         Some((
             0,
@@ -133,21 +144,26 @@ fn units_of_an_impulse(rt: HostRuntime) -> Result<(), AllocError> {
             124,
         )),
         Some((224, [[ABSENT, ABSENT], [ABSENT, ABSENT]], 2)),
-        None,
     ];
     assert_eq!(rt; found, expected);
-    Ok(())
 }
 
 #[test]
-fn units_of_steps(rt: HostRuntime) -> Result<(), AllocError> {
+fn units_of_steps(rt: HostRuntime) {
     let settings = Settings {
         rate: Rate::K192,
         sample_rate: SampleRate::Hz48000,
         channels: Channels::Stereo,
     };
-    let pcm = steps(rt.alloc())?;
-    let found = frames::<Brand>(Blank::new(1), settings, pcm);
+    // Seven steps of 97 samples each, again and again, and to the right half as high.
+    let mut left = [0; 2304];
+    let mut right = [0; 2304];
+    for n in 0..2304 {
+        let step = STEPS[n / 97 % 7];
+        left[n] = step;
+        right[n] = step / 2;
+    }
+    let found = frames::<Brand>(Blank::new(1), settings, &left, &right);
     let expected = Some((
         14,
         [
@@ -163,7 +179,6 @@ fn units_of_steps(rt: HostRuntime) -> Result<(), AllocError> {
         169,
     ));
     assert_eq!(rt; found[1], expected);
-    Ok(())
 }
 
 // 128 kbit/s, 44100 Hz.

@@ -9,7 +9,7 @@ ghost use Rattle.l3_commit.specs.Tried.{granule_tried};
 
 use crate::choosing::{Place, choose_granule, no_units};
 use l3_analysis::Piece;
-use l3_base::{Channels, Settings, Steps};
+use l3_base::{Settings, Steps};
 use l3_reservoir::Reserve;
 use l3_stream::ChosenFrame;
 use std::marker::Model;
@@ -72,13 +72,6 @@ impl Track {
                 units: no_units(),
             },
         }
-    }
-
-    // The channels of its settings.
-    pub(crate) fn channels(&self) -> Channels
-        ensures { result ≡ self.now.settings.channels }
-    {
-        self.settings.channels
     }
 
     // The reserve before the granule that comes next, in bits, and 4294967295 where there is more.

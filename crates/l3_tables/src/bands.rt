@@ -16,7 +16,7 @@ pub static EDGES: [[u16; 23]; 3] = [
 
 /// `slen1` and `slen2` of each `scalefac_compress` (ISO/IEC 11172-3, 2.4).
 ///
-/// `slen1` serves bands 0 to 10, `slen2` bands 11 to 20. No code reads it yet: it is kept for scale factors.
+/// `slen1` serves bands 0 to 10, `slen2` bands 11 to 20.
 #[rattlefmt::skip]
 pub static SLEN: [[u8; 2]; 16] = [
     [0, 0], [0, 1], [0, 2], [0, 3], [3, 0], [1, 1], [1, 2], [1, 3],

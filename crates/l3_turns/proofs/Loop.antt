@@ -16,7 +16,7 @@ use Rattle.l3_commit.specs.Encoding.{spectra_of, frames_chosen, encoding_of, gai
 use Rattle.l3_commit.specs.Laws.{AreSamples}
 use Rattle.l3_commit.specs.Tried.{tried_at}
 use Rattle.l3_commit.specs.Tracks.{TrackView, first_track, next_of}
-use Rattle.l3_commit.specs.Running.{RunningView, Stands, GoesOnStanding, StandsOn}
+use Rattle.l3_commit.specs.Standing.{CommitterView, StandsFor, StillStands, StandsOn}
 use Rattle.l3_commit.proofs.Rests.{frames-split}
 use Rattle.l3_commit.proofs.Encodings.{chosen-fit}
 use Rattle.l3_turns.specs.Turning.{IsBehind, FitAfter, Pushes, Halts, AreChosen, Turns, Breaks}
@@ -27,17 +27,17 @@ use Rattle.l3_turns.proofs.Counts.{tried_so_far, tried-none, tried-more, tried-w
 
 -- of a committer that stood for samples with these bytes before them: it stands for them still, the
 -- frames are those chosen before the track's, and so many gains were tried
-pub record IsTold (c d : RunningView) (bytes now : List ℕ) (fs : List ChosenFrame) (tried : ℕ) : Type 0 where
+pub record IsTold (c d : CommitterView) (bytes now : List ℕ) (fs : List ChosenFrame) (tried : ℕ) : Type 0 where
   pub after : drop d.windows.samples.remaining now ≡ drop c.windows.samples.remaining bytes
-  pub stands : GoesOnStanding c d bytes now
-  pub chosen : (st : Settings) (left right : List ℤ) → Stands c bytes st left right → fs ≡ frames_before st (spectra_of left right) d.track.frame
-  pub gains : (st : Settings) (left right : List ℤ) → Stands c bytes st left right → tried ≡ tried_so_far st (spectra_of left right) d.track.frame (length d.track.granules)
+  pub stands : StillStands c d bytes now
+  pub chosen : (st : Settings) (left right : List ℤ) → StandsFor c bytes st left right → fs ≡ frames_before st (spectra_of left right) d.track.frame
+  pub gains : (st : Settings) (left right : List ℤ) → StandsFor c bytes st left right → tried ≡ tried_so_far st (spectra_of left right) d.track.frame (length d.track.granules)
 
-abbrev pub Told : (c d : RunningView) → (left_old left_new : Option (List ℕ)) → List ChosenFrame → (tried : ℕ) → Type 0
+abbrev pub Told : (c d : CommitterView) → (left_old left_new : Option (List ℕ)) → List ChosenFrame → (tried : ℕ) → Type 0
 Told c d left_old left_new fs tried = IfSome left_old (λ bytes. IsSomeAnd left_new (λ now. IsTold c d bytes now fs tried))
 
 -- what the turns have done since the first
-pub record Ran (c d : RunningView) (w v : Writing) (old new : List ℕ → Type 0) (left_old left_new : Option (List ℕ)) (fs : List ChosenFrame) (tried : ℕ) : Type 0 where
+pub record Ran (c d : CommitterView) (w v : Writing) (old new : List ℕ → Type 0) (left_old left_new : Option (List ℕ)) (fs : List ChosenFrame) (tried : ℕ) : Type 0 where
   pub pushes : Pushes c.track d.track w v old new fs
   pub told : Told c d left_old left_new fs tried
 
@@ -47,7 +47,7 @@ first-frames : (st : Settings) (spectra : Spectra) (n : ℕ) → n ≡ 0 → [] 
 unfolding frames_before
 first-frames st spectra n first = ap (frames_before st spectra) (sym first)
 
-told-first : (c : RunningView) (left : Option (List ℕ)) → c.track.frame ≡ 0 → length c.track.granules ≡ 0 → Told c c left left [] 0
+told-first : (c : CommitterView) (left : Option (List ℕ)) → c.track.frame ≡ 0 → length c.track.granules ≡ 0 → Told c c left left [] 0
 told-first c None first none = tt
 told-first c (Some bytes) first none = record {
   after = refl;
@@ -56,7 +56,7 @@ told-first c (Some bytes) first none = record {
   gains = λ st left right s. tried-none st (spectra_of left right) c.track.frame (length c.track.granules) first none;
 }
 
-pub ran-first : (c : RunningView) (st : Settings) (w : Writing) (now : List ℕ → Type 0) (left : Option (List ℕ)) → c.track ≡ first_track st → w ≡ fresh st → Ran c c (fresh st) w now now left left [] 0
+pub ran-first : (c : CommitterView) (st : Settings) (w : Writing) (now : List ℕ → Type 0) (left : Option (List ℕ)) → c.track ≡ first_track st → w ≡ fresh st → Ran c c (fresh st) w now now left left [] 0
 ran-first c st w now left start is = record {
   pushes = subst (λ (x : Writing). Pushes c.track c.track (fresh st) x now now []) (sym is) (pushes-none c.track c.track (fresh st) now refl refl refl);
   told = told-first c left (ap (λ (t : TrackView). t.frame) start) (ap (λ (t : TrackView). length t.granules) start);
@@ -64,7 +64,7 @@ ran-first c st w now left start is = record {
 
 -- ---- one turn
 
-told-read : (c d m : RunningView) (left_old left_mid left_new : Option (List ℕ)) (fs : List ChosenFrame) (tried : ℕ) → m.track ≡ d.track
+told-read : (c d m : CommitterView) (left_old left_mid left_new : Option (List ℕ)) (fs : List ChosenFrame) (tried : ℕ) → m.track ≡ d.track
     → Told c d left_old left_mid fs tried → StandsOn d m left_mid left_new → GoesOn d.windows m.windows left_mid left_new → Told c m left_old left_new fs tried
 told-read c d m None left_mid left_new fs tried same told on goes = tt
 told-read c d m (Some bytes) None left_new fs tried same told on goes = absurd told
@@ -77,15 +77,15 @@ told-read c d m (Some bytes) (Some mid) (Some now) fs tried same told on goes = 
 }
 
 -- samples were read
-pub ran-read : (c d m : RunningView) (w v : Writing) (old new : List ℕ → Type 0) (left_old left_mid left_new : Option (List ℕ)) (fs : List ChosenFrame) (tried : ℕ) → m.track ≡ d.track
+pub ran-read : (c d m : CommitterView) (w v : Writing) (old new : List ℕ → Type 0) (left_old left_mid left_new : Option (List ℕ)) (fs : List ChosenFrame) (tried : ℕ) → m.track ≡ d.track
     → Ran c d w v old new left_old left_mid fs tried → StandsOn d m left_mid left_new → GoesOn d.windows m.windows left_mid left_new → Ran c m w v old new left_old left_new fs tried
 ran-read c d m w v old new left_old left_mid left_new fs tried same ran on goes = record {
   pushes = subst (λ (u : TrackView). Pushes c.track u w v old new fs) (sym same) ran.pushes;
   told = told-read c d m left_old left_mid left_new fs tried same ran.told on goes;
 }
 
-told-gathered : (c d m : RunningView) (left_old left_new : Option (List ℕ)) (fs : List ChosenFrame) (tried : ℕ) → m.track ≡ d.track → m.windows ≡ d.windows
-    → Told c d left_old left_new fs tried → ((bytes : List ℕ) → GoesOnStanding d m bytes bytes) → Told c m left_old left_new fs tried
+told-gathered : (c d m : CommitterView) (left_old left_new : Option (List ℕ)) (fs : List ChosenFrame) (tried : ℕ) → m.track ≡ d.track → m.windows ≡ d.windows
+    → Told c d left_old left_new fs tried → ((bytes : List ℕ) → StillStands d m bytes bytes) → Told c m left_old left_new fs tried
 told-gathered c d m None left_new fs tried same windows told on = tt
 told-gathered c d m (Some bytes) None fs tried same windows told on = told
 told-gathered c d m (Some bytes) (Some now) fs tried same windows told on = record {
@@ -96,23 +96,23 @@ told-gathered c d m (Some bytes) (Some now) fs tried same windows told on = reco
 }
 
 -- the granule was made ready
-pub ran-gathered : (c d m : RunningView) (w v : Writing) (old new : List ℕ → Type 0) (left_old left_new : Option (List ℕ)) (fs : List ChosenFrame) (tried : ℕ) → m.track ≡ d.track → m.windows ≡ d.windows
-    → Ran c d w v old new left_old left_new fs tried → ((bytes : List ℕ) → GoesOnStanding d m bytes bytes) → Ran c m w v old new left_old left_new fs tried
+pub ran-gathered : (c d m : CommitterView) (w v : Writing) (old new : List ℕ → Type 0) (left_old left_new : Option (List ℕ)) (fs : List ChosenFrame) (tried : ℕ) → m.track ≡ d.track → m.windows ≡ d.windows
+    → Ran c d w v old new left_old left_new fs tried → ((bytes : List ℕ) → StillStands d m bytes bytes) → Ran c m w v old new left_old left_new fs tried
 ran-gathered c d m w v old new left_old left_new fs tried same windows ran on = record {
   pushes = subst (λ (u : TrackView). Pushes c.track u w v old new fs) (sym same) ran.pushes;
   told = told-gathered c d m left_old left_new fs tried same windows ran.told on;
 }
 
 -- what a turn says of the gains that it tried
-abbrev pub TriedBy : RunningView → ℕ → Type 0
-TriedBy d count = (bytes : List ℕ) (st : Settings) (left right : List ℤ) → Stands d bytes st left right → count ≡ tried_at st (spectra_of left right) d.track.frame (length d.track.granules)
+abbrev pub TriedBy : CommitterView → ℕ → Type 0
+TriedBy d count = (bytes : List ℕ) (st : Settings) (left right : List ℤ) → StandsFor d bytes st left right → count ≡ tried_at st (spectra_of left right) d.track.frame (length d.track.granules)
 
 -- what it says of frames
-abbrev pub TurnsOn : (d e : RunningView) → List ChosenFrame → Type 0
-TurnsOn d e more = (bytes : List ℕ) (st : Settings) (left right : List ℤ) → Stands d bytes st left right →
-    Stands e bytes st left right × AreChosen st left right d.track.frame e.track.frame more
+abbrev pub TurnsOn : (d e : CommitterView) → List ChosenFrame → Type 0
+TurnsOn d e more = (bytes : List ℕ) (st : Settings) (left right : List ℤ) → StandsFor d bytes st left right →
+    StandsFor e bytes st left right × AreChosen st left right d.track.frame e.track.frame more
 
-told-turned : (c d e : RunningView) (left_old left_new : Option (List ℕ)) (fs more : List ChosenFrame) (tried count : ℕ) → e.windows ≡ d.windows
+told-turned : (c d e : CommitterView) (left_old left_new : Option (List ℕ)) (fs more : List ChosenFrame) (tried count : ℕ) → e.windows ≡ d.windows
     → length d.track.granules < 2 → length e.track.granules < 2 → next_of e.track ≡ next_of d.track + 1 → TriedBy d count → TurnsOn d e more
     → Told c d left_old left_new fs tried → Told c e left_old left_new (fs ++ more) (tried + count)
 told-turned c d e None left_new fs more tried count windows few low next by turn told = tt
@@ -130,7 +130,7 @@ told-turned c d e (Some bytes) (Some now) fs more tried count windows few low ne
 }
 
 -- the turn was done
-pub ran-turned : (c d e : RunningView) (w v z : Writing) (old mid new : List ℕ → Type 0) (left_old left_new : Option (List ℕ)) (fs : List ChosenFrame) (tried count : ℕ) → e.windows ≡ d.windows
+pub ran-turned : (c d e : CommitterView) (w v z : Writing) (old mid new : List ℕ → Type 0) (left_old left_new : Option (List ℕ)) (fs : List ChosenFrame) (tried count : ℕ) → e.windows ≡ d.windows
     → length d.track.granules < 2 → length e.track.granules < 2 → next_of e.track ≡ next_of d.track + 1 → TriedBy d count
     → Ran c d w v old mid left_old left_new fs tried → (turn : Turns d e v z mid new) → Ran c e w z old new left_old left_new (fs ++ turn.0) (tried + count)
 ran-turned c d e w v z old mid new left_old left_new fs tried count windows few low next by ran turn = record {
@@ -190,14 +190,14 @@ halted-chosen t st old new fs left right start owes h first l r =
     subst (λ (l : List ChosenFrame). TakesPrefix old new (stream_of st l)) all front
 
 -- a front of the encoding was taken, whichever samples the committer stood for
-abbrev pub GivesFronts : RunningView → Settings → (old new : List ℕ → Type 0) → Option (List ℕ) → Type 0
-GivesFronts c st old new left_old = IfSome left_old (λ bytes. (left right : List ℤ) → Stands c bytes st left right → AreSamples left → AreSamples right → TakesPrefix old new (encoding_of st left right))
+abbrev pub GivesFronts : CommitterView → Settings → (old new : List ℕ → Type 0) → Option (List ℕ) → Type 0
+GivesFronts c st old new left_old = IfSome left_old (λ bytes. (left right : List ℤ) → StandsFor c bytes st left right → AreSamples left → AreSamples right → TakesPrefix old new (encoding_of st left right))
 
 frames-within : (frame few total : ℕ) → 2 * frame + few ≤ 2 * total → frame ≤ total
 frames-within frame few total le = omega arith
 
 -- a read failed
-pub read-failed : (c d : RunningView) (st : Settings) (v : Writing) (old new : List ℕ → Type 0) (left_old left_new : Option (List ℕ)) (fs : List ChosenFrame) (tried : ℕ) → c.track ≡ first_track st → Owes st
+pub read-failed : (c d : CommitterView) (st : Settings) (v : Writing) (old new : List ℕ → Type 0) (left_old left_new : Option (List ℕ)) (fs : List ChosenFrame) (tried : ℕ) → c.track ≡ first_track st → Owes st
     → Ran c d (fresh st) v old new left_old left_new fs tried → GivesFronts c st old new left_old
 read-failed c d st v old new None left_new fs tried start owes ran = tt
 read-failed c d st v old new (Some bytes) None fs tried start owes ran = absurd ran.told
@@ -206,13 +206,13 @@ read-failed c d st v old new (Some bytes) (Some now) fs tried start owes ran = �
     halted-chosen c.track st old new fs left right start owes (halts-here c.track d.track (fresh st) v old new fs ran.pushes)
     (d.track.frame, frames-within d.track.frame (length d.track.granules) (frames_for (length left)) within, ran.told.chosen st left right s) l r
 
-pub read-failed-frames : (c d : RunningView) (st : Settings) (v : Writing) (old new : List ℕ → Type 0) (left_old left_new : Option (List ℕ)) (fs : List ChosenFrame) (tried : ℕ) → c.track ≡ first_track st → Owes st
+pub read-failed-frames : (c d : CommitterView) (st : Settings) (v : Writing) (old new : List ℕ → Type 0) (left_old left_new : Option (List ℕ)) (fs : List ChosenFrame) (tried : ℕ) → c.track ≡ first_track st → Owes st
     → Ran c d (fresh st) v old new left_old left_new fs tried → FramesFit st 0 0 fs × TakesPrefix old new (stream_of st fs)
 read-failed-frames c d st v old new left_old left_new fs tried start owes ran =
     halted-frames c.track st old new fs start owes (halts-here c.track d.track (fresh st) v old new fs ran.pushes)
 
 -- a write failed
-pub write-failed : (c d : RunningView) (st : Settings) (v : Writing) (old mid new : List ℕ → Type 0) (left_old left_new : Option (List ℕ)) (fs : List ChosenFrame) (tried : ℕ) → c.track ≡ first_track st → Owes st
+pub write-failed : (c d : CommitterView) (st : Settings) (v : Writing) (old mid new : List ℕ → Type 0) (left_old left_new : Option (List ℕ)) (fs : List ChosenFrame) (tried : ℕ) → c.track ≡ first_track st → Owes st
     → Ran c d (fresh st) v old mid left_old left_new fs tried → Breaks d v mid new → GivesFronts c st old new left_old
 write-failed c d st v old mid new None left_new fs tried start owes ran broke = tt
 write-failed c d st v old mid new (Some bytes) None fs tried start owes ran broke = absurd ran.told
@@ -222,7 +222,7 @@ write-failed c d st v old mid new (Some bytes) (Some now) fs tried start owes ra
     halted-chosen c.track st old new (fs ++ more) left right start owes (halts-then c.track d.track (fresh st) v old mid new fs more ran.pushes broke.1)
     (last.0, last.1, ap (λ (k : List ChosenFrame). k ++ more) (ran.told.chosen st left right s) ∙ last.2) l r
 
-pub write-failed-frames : (c d : RunningView) (st : Settings) (v : Writing) (old mid new : List ℕ → Type 0) (left_old left_new : Option (List ℕ)) (fs : List ChosenFrame) (tried : ℕ) → c.track ≡ first_track st → Owes st
+pub write-failed-frames : (c d : CommitterView) (st : Settings) (v : Writing) (old mid new : List ℕ → Type 0) (left_old left_new : Option (List ℕ)) (fs : List ChosenFrame) (tried : ℕ) → c.track ≡ first_track st → Owes st
     → Ran c d (fresh st) v old mid left_old left_new fs tried → (broke : Breaks d v mid new) → FramesFit st 0 0 (fs ++ broke.0) × TakesPrefix old new (stream_of st (fs ++ broke.0))
 write-failed-frames c d st v old mid new left_old left_new fs tried start owes ran broke =
     halted-frames c.track st old new (fs ++ broke.0) start owes (halts-then c.track d.track (fresh st) v old mid new fs broke.0 ran.pushes broke.1)
@@ -230,37 +230,37 @@ write-failed-frames c d st v old mid new left_old left_new fs tried start owes r
 -- ---- behind the last granule
 
 -- all granules are committed
-abbrev pub AllDone : RunningView → Type 0
+abbrev pub AllDone : CommitterView → Type 0
 AllDone d = (bytes : List ℕ) (left right : List ℤ) → Holds d.windows bytes left right → granules_for (length left) ≤ next_of d.track
 
 all-frames : (frame few total : ℕ) → 2 * frame + few ≤ 2 * total → 2 * total ≤ 2 * frame + few → few < 2 → (frame ≡ total) × (few ≡ 0)
 all-frames frame few total low high less = (omega arith, omega arith)
 
-at-end : (d : RunningView) (now : List ℕ) (st : Settings) (left right : List ℤ) → length d.track.granules < 2 → AllDone d → Stands d now st left right → (d.track.frame ≡ frames_for (length left)) × (length d.track.granules ≡ 0)
+at-end : (d : CommitterView) (now : List ℕ) (st : Settings) (left right : List ℤ) → length d.track.granules < 2 → AllDone d → StandsFor d now st left right → (d.track.frame ≡ frames_for (length left)) × (length d.track.granules ≡ 0)
 at-end d now st left right few all s = all-frames d.track.frame (length d.track.granules) (frames_for (length left)) s.within (all now left right s.holds) few
 
 all-chosen : (st : Settings) (left right : List ℤ) (n : ℕ) → n ≡ frames_for (length left) → frames_before st (spectra_of left right) n ≡ frames_chosen st left right
 unfolding frames_chosen
 all-chosen st left right n is = ap (frames_before st (spectra_of left right)) is
 
-fit-pushed : (c d : RunningView) (st : Settings) (v : Writing) (old new : List ℕ → Type 0) (fs : List ChosenFrame) → c.track ≡ first_track st → Pushes c.track d.track (fresh st) v old new fs → FramesFit st 0 0 fs
+fit-pushed : (c d : CommitterView) (st : Settings) (v : Writing) (old new : List ℕ → Type 0) (fs : List ChosenFrame) → c.track ≡ first_track st → Pushes c.track d.track (fresh st) v old new fs → FramesFit st 0 0 fs
 fit-pushed c d st v old new fs start p =
     subst (λ (s : Settings). FramesFit s 0 0 fs) (p.same ∙ settings-first c.track st start) (p.behind [] (behind-first c.track st (fresh st) start refl)).follow.fit
 
 -- the frames pushed are as many as the track's number says
-pub count-pushed : (c d : RunningView) (st : Settings) (v : Writing) (old new : List ℕ → Type 0) (fs : List ChosenFrame) → c.track ≡ first_track st → Pushes c.track d.track (fresh st) v old new fs → length fs ≡ d.track.frame
+pub count-pushed : (c d : CommitterView) (st : Settings) (v : Writing) (old new : List ℕ → Type 0) (fs : List ChosenFrame) → c.track ≡ first_track st → Pushes c.track d.track (fresh st) v old new fs → length fs ≡ d.track.frame
 count-pushed c d st v old new fs start p = (p.behind [] (behind-first c.track st (fresh st) start refl)).follow.number
 
 -- the writer has no more to refuse
-pub still-good : (c d : RunningView) (st : Settings) (v : Writing) (old new : List ℕ → Type 0) (fs : List ChosenFrame) → c.track ≡ first_track st → Pushes c.track d.track (fresh st) v old new fs → v.failed ≡ false
+pub still-good : (c d : CommitterView) (st : Settings) (v : Writing) (old new : List ℕ → Type 0) (fs : List ChosenFrame) → c.track ≡ first_track st → Pushes c.track d.track (fresh st) v old new fs → v.failed ≡ false
 still-good c d st v old new fs start p = (p.behind [] (behind-first c.track st (fresh st) start refl)).unfailed
 
 -- and stands behind some frames
-pub stands-behind : (c d : RunningView) (st : Settings) (v : Writing) (old new : List ℕ → Type 0) (fs : List ChosenFrame) → c.track ≡ first_track st → Pushes c.track d.track (fresh st) v old new fs → IsBehind d.track fs v
+pub stands-behind : (c d : CommitterView) (st : Settings) (v : Writing) (old new : List ℕ → Type 0) (fs : List ChosenFrame) → c.track ≡ first_track st → Pushes c.track d.track (fresh st) v old new fs → IsBehind d.track fs v
 stands-behind c d st v old new fs start p = p.behind [] (behind-first c.track st (fresh st) start refl)
 
 -- the writer was finished
-pub finished-frames : {T E : Type 0} (c d : RunningView) (st : Settings) (v : Writing) (old mid new : List ℕ → Type 0) (left_old left_new : Option (List ℕ)) (fs : List ChosenFrame) (tried : ℕ) (result : Result T E)
+pub finished-frames : {T E : Type 0} (c d : CommitterView) (st : Settings) (v : Writing) (old mid new : List ℕ → Type 0) (left_old left_new : Option (List ℕ)) (fs : List ChosenFrame) (tried : ℕ) (result : Result T E)
     → c.track ≡ first_track st → Owes st → Ran c d (fresh st) v old mid left_old left_new fs tried → Writes mid new result (owed v []) → FramesFit st 0 0 fs × Writes old new result (stream_of st fs)
 finished-frames c d st v old mid new left_old left_new fs tried result start owes ran writes =
     let p = ran.pushes in
@@ -270,9 +270,9 @@ finished-frames c d st v old mid new left_old left_new fs tried result start owe
     sym (p.gives.2 [] [] (behind-first c.track st (fresh st) start refl) whole) ∙ (owes (fs ++ []) ∙ ap (stream_of st) (append-nil fs)) in
     (fit, subst (λ (l : List ℕ). Writes old new result l) all (Writes-then old mid new result p.gives.0 (owed v []) p.gives.1 writes))
 
-pub finished : {T E : Type 0} (c d : RunningView) (st : Settings) (v : Writing) (old mid new : List ℕ → Type 0) (left_old left_new : Option (List ℕ)) (fs : List ChosenFrame) (tried : ℕ) (result : Result T E)
+pub finished : {T E : Type 0} (c d : CommitterView) (st : Settings) (v : Writing) (old mid new : List ℕ → Type 0) (left_old left_new : Option (List ℕ)) (fs : List ChosenFrame) (tried : ℕ) (result : Result T E)
     → c.track ≡ first_track st → Owes st → length d.track.granules < 2 → AllDone d → Ran c d (fresh st) v old mid left_old left_new fs tried → Writes mid new result (owed v [])
-    → IfSome left_old (λ bytes. (left right : List ℤ) → Stands c bytes st left right → Writes old new result (encoding_of st left right))
+    → IfSome left_old (λ bytes. (left right : List ℤ) → StandsFor c bytes st left right → Writes old new result (encoding_of st left right))
 finished c d st v old mid new None left_new fs tried result start owes few all ran writes = tt
 finished c d st v old mid new (Some bytes) None fs tried result start owes few all ran writes = absurd ran.told
 finished c d st v old mid new (Some bytes) (Some now) fs tried result start owes few all ran writes = λ left right s.
@@ -282,9 +282,9 @@ finished c d st v old mid new (Some bytes) (Some now) fs tried result start owes
     subst (λ (l : List ChosenFrame). Writes old new result (stream_of st l)) chosen took
 
 -- what it counted
-pub counted : (c d : RunningView) (st : Settings) (v : Writing) (old new : List ℕ → Type 0) (left_old left_new : Option (List ℕ)) (fs : List ChosenFrame) (tried frames : ℕ)
+pub counted : (c d : CommitterView) (st : Settings) (v : Writing) (old new : List ℕ → Type 0) (left_old left_new : Option (List ℕ)) (fs : List ChosenFrame) (tried frames : ℕ)
     → length d.track.granules < 2 → AllDone d → frames ≡ frames_told d.track.frame → Ran c d (fresh st) v old new left_old left_new fs tried
-    → IfSome left_old (λ bytes. (left right : List ℤ) → Stands c bytes st left right → (frames ≡ frames_told (frames_for (length left))) × (tried ≡ gains_tried st left right))
+    → IfSome left_old (λ bytes. (left right : List ℤ) → StandsFor c bytes st left right → (frames ≡ frames_told (frames_for (length left))) × (tried ≡ gains_tried st left right))
 counted c d st v old new None left_new fs tried frames few all is ran = tt
 counted c d st v old new (Some bytes) None fs tried frames few all is ran = absurd ran.told
 counted c d st v old new (Some bytes) (Some now) fs tried frames few all is ran = λ left right s.
@@ -304,8 +304,8 @@ some-there next ahead read long some there within = omega arith
 no-more : (next ahead read long total : ℕ) → 0 < ahead → 576 * (next + ahead) ≤ read → read ≤ long → long ≤ 576 * total → total ≤ next → ⊥
 no-more next ahead read long total some there within many done = omega arith
 
-data-gone : (d : RunningView) (now : List ℕ) (st : Settings) (left right : List ℤ) (ahead : ℕ) → 0 < ahead → AllDone d → (d.windows.ended ≡ true) ⊎ (576 * (next_of d.track + ahead) ≤ d.windows.read)
-    → (d.windows.ended ≡ true → d.windows.samples.remaining ≡ 0) → Stands d now st left right → d.windows.samples.remaining ≡ 0
+data-gone : (d : CommitterView) (now : List ℕ) (st : Settings) (left right : List ℤ) (ahead : ℕ) → 0 < ahead → AllDone d → (d.windows.ended ≡ true) ⊎ (576 * (next_of d.track + ahead) ≤ d.windows.read)
+    → (d.windows.ended ≡ true → d.windows.samples.remaining ≡ 0) → StandsFor d now st left right → d.windows.samples.remaining ≡ 0
 data-gone d now st left right ahead some all (inl ended) done s = done ended
 data-gone d now st left right ahead some all (inr there) done s =
     absurd (no-more (next_of d.track) ahead d.windows.read (length left) (granules_for (length left)) some there s.holds.left_holds.within (frames-many (length left) (some-there (next_of d.track) ahead d.windows.read (length left) some there s.holds.left_holds.within)) (all now left right s.holds))
@@ -313,9 +313,9 @@ data-gone d now st left right ahead some all (inr there) done s =
 drop-none : (n : ℕ) (xs : List ℕ) → n ≡ 0 → xs ≡ drop n xs
 drop-none n xs none = rw none refl
 
-pub rest-left : (c d : RunningView) (st : Settings) (w v : Writing) (old new : List ℕ → Type 0) (left_old left_new : Option (List ℕ)) (fs : List ChosenFrame) (tried ahead : ℕ) → 0 < ahead → AllDone d
+pub rest-left : (c d : CommitterView) (st : Settings) (w v : Writing) (old new : List ℕ → Type 0) (left_old left_new : Option (List ℕ)) (fs : List ChosenFrame) (tried ahead : ℕ) → 0 < ahead → AllDone d
     → (d.windows.ended ≡ true) ⊎ (576 * (next_of d.track + ahead) ≤ d.windows.read) → (d.windows.ended ≡ true → d.windows.samples.remaining ≡ 0) → Ran c d w v old new left_old left_new fs tried
-    → IfSome left_old (λ bytes. (left right : List ℤ) → Stands c bytes st left right → left_new ≡ Some (drop c.windows.samples.remaining bytes))
+    → IfSome left_old (λ bytes. (left right : List ℤ) → StandsFor c bytes st left right → left_new ≡ Some (drop c.windows.samples.remaining bytes))
 rest-left c d st w v old new None left_new fs tried ahead some all there done ran = tt
 rest-left c d st w v old new (Some bytes) None fs tried ahead some all there done ran = absurd ran.told
 rest-left c d st w v old new (Some bytes) (Some now) fs tried ahead some all there done ran = λ left right s.
@@ -324,9 +324,9 @@ rest-left c d st w v old new (Some bytes) (Some now) fs tried ahead some all the
 
 -- ---- no more is counted than all frames try
 
-pub steps-within : (c d : RunningView) (st : Settings) (w v : Writing) (old new : List ℕ → Type 0) (left_old left_new : Option (List ℕ)) (fs : List ChosenFrame) (tried made before now : ℕ)
+pub steps-within : (c d : CommitterView) (st : Settings) (w v : Writing) (old new : List ℕ → Type 0) (left_old left_new : Option (List ℕ)) (fs : List ChosenFrame) (tried made before now : ℕ)
     → length d.track.granules < 2 → made ≡ tried → now ≡ before + made → Ran c d w v old new left_old left_new fs tried
-    → IfSome left_old (λ bytes. (left right : List ℤ) → Stands c bytes st left right → now ≤ before + gains_tried st left right)
+    → IfSome left_old (λ bytes. (left right : List ℤ) → StandsFor c bytes st left right → now ≤ before + gains_tried st left right)
 steps-within c d st w v old new None left_new fs tried made before now few same ticks ran = tt
 steps-within c d st w v old new (Some bytes) None fs tried made before now few same ticks ran = absurd ran.told
 steps-within c d st w v old new (Some bytes) (Some last) fs tried made before now few same ticks ran = λ left right s.
@@ -336,11 +336,11 @@ steps-within c d st w v old new (Some bytes) (Some last) fs tried made before no
     omega (arith, gains, within, same, ticks)
 
 -- nor after a turn that broke off
-pub broke-within : (c d : RunningView) (st : Settings) (w v : Writing) (old new : List ℕ → Type 0) (left_old left_new : Option (List ℕ)) (fs : List ChosenFrame) (tried made before now last : ℕ)
+pub broke-within : (c d : CommitterView) (st : Settings) (w v : Writing) (old new : List ℕ → Type 0) (left_old left_new : Option (List ℕ)) (fs : List ChosenFrame) (tried made before now last : ℕ)
     → length d.track.granules < 2 → made ≡ tried → now ≡ before + made → Ran c d w v old new left_old left_new fs tried
     → ((bytes : List ℕ) (left right : List ℤ) → Holds d.windows bytes left right → next_of d.track < granules_for (length left))
-    → ((bytes : List ℕ) (s : Settings) (left right : List ℤ) → Stands d bytes s left right → last ≤ now + tried_at s (spectra_of left right) d.track.frame (length d.track.granules))
-    → IfSome left_old (λ bytes. (left right : List ℤ) → Stands c bytes st left right → last ≤ before + gains_tried st left right)
+    → ((bytes : List ℕ) (s : Settings) (left right : List ℤ) → StandsFor d bytes s left right → last ≤ now + tried_at s (spectra_of left right) d.track.frame (length d.track.granules))
+    → IfSome left_old (λ bytes. (left right : List ℤ) → StandsFor c bytes st left right → last ≤ before + gains_tried st left right)
 broke-within c d st w v old new None left_new fs tried made before now last few same ticks ran below by = tt
 broke-within c d st w v old new (Some bytes) None fs tried made before now last few same ticks ran below by = absurd ran.told
 broke-within c d st w v old new (Some bytes) (Some rest) fs tried made before now last few same ticks ran below by = λ left right s.
@@ -370,13 +370,13 @@ told-push frames frame few last low number is turn less at next odd =
 
 -- ---- the same in the words of the answers
 
-pub IfSome-samples : (c : RunningView) (st : Settings) (old new : List ℕ → Type 0) (left_old : Option (List ℕ)) → IfSome left_old (λ bytes. (left right : List ℤ) → Stands c bytes st left right → TakesPrefix old new (encoding_of st left right))
+pub IfSome-samples : (c : CommitterView) (st : Settings) (old new : List ℕ → Type 0) (left_old : Option (List ℕ)) → IfSome left_old (λ bytes. (left right : List ℤ) → StandsFor c bytes st left right → TakesPrefix old new (encoding_of st left right))
     → GivesFronts c st old new left_old
 IfSome-samples c st old new None h = tt
 IfSome-samples c st old new (Some bytes) h = λ left right s l r. h left right s
 
-pub reported : (c : RunningView) (st : Settings) (left_old : Option (List ℕ)) (report : Report)
-    → IfSome left_old (λ bytes. (left right : List ℤ) → Stands c bytes st left right → (report.frames ≡ frames_told (frames_for (length left))) × (report.tried ≡ gains_tried st left right))
-    → IfSome left_old (λ bytes. (left right : List ℤ) → Stands c bytes st left right → IsReport st left right report)
+pub reported : (c : CommitterView) (st : Settings) (left_old : Option (List ℕ)) (report : Report)
+    → IfSome left_old (λ bytes. (left right : List ℤ) → StandsFor c bytes st left right → (report.frames ≡ frames_told (frames_for (length left))) × (report.tried ≡ gains_tried st left right))
+    → IfSome left_old (λ bytes. (left right : List ℤ) → StandsFor c bytes st left right → IsReport st left right report)
 reported c st None report h = tt
 reported c st (Some bytes) report h = λ left right s. record { frames = (h left right s).0; tried = (h left right s).1 }

@@ -12,7 +12,7 @@ use Rattle.l3_frames.specs.Writing.{Writing, FitBehind, GivesFirst, GivesFront, 
 use Rattle.l3_commit.specs.Choice.{Spectra, frame_chosen, frames_before}
 use Rattle.l3_commit.specs.Encoding.{spectra_of}
 use Rattle.l3_commit.specs.Tracks.{TrackView, first_track, with_granule, with_frame_ended}
-use Rattle.l3_commit.specs.Running.{RunningView, Stands, GoesOnStanding}
+use Rattle.l3_commit.specs.Standing.{CommitterView, StandsFor, StillStands}
 use Rattle.l3_turns.specs.Turning.{IsBehind, FitAfter, Pushes, Halts, Turns, Breaks}
 
 -- nothing was pushed, and the frame stays the same
@@ -143,8 +143,8 @@ one-more st spectra n m f chosen is =
     ap (λ (g : ChosenFrame). frames_before st spectra n ++ (g ∷ [])) chosen ∙ ap (frames_before st spectra) (sym (is ∙ add-one n))
 
 -- the first granule of a frame
-pub turns-first : (c d : RunningView) (lines : ℕ → List ℤ) (w : Writing) (now : List ℕ → Type 0) → d.track ≡ with_granule c.track lines
-    → ((bytes : List ℕ) → GoesOnStanding c d bytes bytes) → Turns c d w w now now
+pub turns-first : (c d : CommitterView) (lines : ℕ → List ℤ) (w : Writing) (now : List ℕ → Type 0) → d.track ≡ with_granule c.track lines
+    → ((bytes : List ℕ) → StillStands c d bytes bytes) → Turns c d w w now now
 turns-first c d lines w now is stands = (
   [],
   subst (λ (u : TrackView). Pushes c.track u w w now now []) (sym is) (pushes-none c.track (with_granule c.track lines) w now refl refl refl),
@@ -160,13 +160,13 @@ chosen-before : (st : Settings) (spectra : Spectra) (t m : TrackView) (lines : �
 chosen-before st spectra t m lines f is chosen = chosen ∙ ap (λ (u : TrackView). frame_chosen st spectra u.frame) is
 
 -- the second granule: `m` is the committer between
-module _ (c m : RunningView) (lines : ℕ → List ℤ) (w v : Writing) (f : ChosenFrame) (old new : List ℕ → Type 0) (first : m.track ≡ with_granule c.track lines)
-    (stands : (bytes : List ℕ) → GoesOnStanding c m bytes bytes) (follows : CanFollowOn m.track f)
-    (chosen : (bytes : List ℕ) (st : Settings) (left right : List ℤ) → Stands m bytes st left right → f ≡ frame_chosen st (spectra_of left right) m.track.frame) where
+module _ (c m : CommitterView) (lines : ℕ → List ℤ) (w v : Writing) (f : ChosenFrame) (old new : List ℕ → Type 0) (first : m.track ≡ with_granule c.track lines)
+    (stands : (bytes : List ℕ) → StillStands c m bytes bytes) (follows : CanFollowOn m.track f)
+    (chosen : (bytes : List ℕ) (st : Settings) (left right : List ℤ) → StandsFor m bytes st left right → f ≡ frame_chosen st (spectra_of left right) m.track.frame) where
   same : m.track.frame ≡ c.track.frame
   same = ap (λ (u : TrackView). u.frame) first
 
-  pub turns-second : (d : RunningView) → d.track ≡ with_frame_ended m.track → ((bytes : List ℕ) → GoesOnStanding m d bytes bytes)
+  pub turns-second : (d : CommitterView) → d.track ≡ with_frame_ended m.track → ((bytes : List ℕ) → StillStands m d bytes bytes)
       → v.settings ≡ w.settings → v.frames ≡ w.frames + 1 → v.end ≡ end_of w.settings w.frames f → v.failed ≡ false → GivesFirst old new w v f → Turns c d w v old new
   turns-second d is after settings frames end good gives =
       let last : d.track ≡ with_frame_ended (with_granule c.track lines) = is ∙ ap with_frame_ended first in (

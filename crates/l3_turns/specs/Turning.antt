@@ -9,7 +9,7 @@ use Rattle.l3_frames.specs.Writing.{Writing, owed}
 use Rattle.l3_commit.specs.Choice.{frames_before}
 use Rattle.l3_commit.specs.Encoding.{spectra_of}
 use Rattle.l3_commit.specs.Tracks.{TrackView}
-use Rattle.l3_commit.specs.Running.{RunningView, Stands}
+use Rattle.l3_commit.specs.Standing.{CommitterView, StandsFor}
 
 -- a writer that these frames were pushed to, which the track's frame can follow
 pub record IsBehind (t : TrackView) (fs : List ChosenFrame) (w : Writing) : Type 0 where
@@ -45,14 +45,14 @@ AreChosen st left right n m more =
 
 -- a turn that was done: its frames were pushed; where the committer stood for samples it still does,
 -- and the frames are the chosen ones
-abbrev pub Turns : (c d : RunningView) → (w v : Writing) → (old new : List ℕ → Type 0) → Type 0
+abbrev pub Turns : (c d : CommitterView) → (w v : Writing) → (old new : List ℕ → Type 0) → Type 0
 Turns c d w v old new = (more : List ChosenFrame) × Pushes c.track d.track w v old new more
-    × ((bytes : List ℕ) (st : Settings) (left right : List ℤ) → Stands c bytes st left right →
-    Stands d bytes st left right × AreChosen st left right c.track.frame d.track.frame more)
+    × ((bytes : List ℕ) (st : Settings) (left right : List ℤ) → StandsFor c bytes st left right →
+    StandsFor d bytes st left right × AreChosen st left right c.track.frame d.track.frame more)
 
 -- a turn that the writer broke off: the sink took a front of its frames; where the committer stood
 -- for samples they are chosen ones, of which there are enough
-abbrev pub Breaks : (c : RunningView) → Writing → (old new : List ℕ → Type 0) → Type 0
+abbrev pub Breaks : (c : CommitterView) → Writing → (old new : List ℕ → Type 0) → Type 0
 Breaks c w old new = (more : List ChosenFrame) × Halts c.track w old new more
-    × ((bytes : List ℕ) (st : Settings) (left right : List ℤ) → Stands c bytes st left right →
+    × ((bytes : List ℕ) (st : Settings) (left right : List ℤ) → StandsFor c bytes st left right →
     (m : ℕ) × (m ≤ frames_for (length left)) × AreChosen st left right c.track.frame m more)

@@ -1,12 +1,12 @@
 ghost use Rattle.std.specs.Prelude.{◌≡◌, ◌+◌, ◌<◌, ◌≤◌, ℕ, ℤ, List, Some, drop, length, false, IfOk, IfSome, OnOk};
 ghost use Rattle.l3_commit.specs.Encoding.{gains_tried};
-ghost use Rattle.l3_commit.specs.Running.{Stands};
+ghost use Rattle.l3_commit.specs.Standing.{StandsFor};
 ghost use Rattle.l3_commit.specs.Tracks.{first_track};
 ghost use Rattle.l3_turns.specs.Answers.{CountsFaults, GivesFrames, GivesStream, IsReport};
 
 use crate::turn;
 use l3_base::{Settings, Steps};
-use l3_commit::{Report, Running};
+use l3_commit::{Report, Committer};
 use l3_frames::FrameWriter;
 use l3_guess::Flat;
 use l3_io::{Sink, Source};
@@ -29,7 +29,7 @@ pub enum TurnFault {
 /// with a front of it taken, and as the last act.
 pub fn encode_turns<S: Source, K: Sink, L: Ledger + Send>(
     settings: Settings,
-    committer: &mut Running,
+    committer: &mut Committer,
     source: &mut S,
     sink: &mut K,
     steps: &mut Steps<L>,
@@ -38,17 +38,17 @@ pub fn encode_turns<S: Source, K: Sink, L: Ledger + Send>(
     requires alone { length committer.old.offers.placed ≡ 0 }
     requires ahead { 0 < committer.old.windows.ahead }
     requires sound { committer.old.windows.samples.failed ≡ false }
-    ensures bytes { IfSome (S.left source.old) (λ bytes. (left right : List ℤ) → Stands committer.old bytes settings left right →
+    ensures bytes { IfSome (S.left source.old) (λ bytes. (left right : List ℤ) → StandsFor committer.old bytes settings left right →
         GivesStream settings left right result (K.taken sink.old) (K.taken sink.new)) }
     ensures frames { GivesFrames settings result (K.taken sink.old) (K.taken sink.new) }
 
     // What follows the data is left, and nothing of the data.
-    ensures rest { OnOk result (IfSome (S.left source.old) (λ bytes. (left right : List ℤ) → Stands committer.old bytes settings left right →
+    ensures rest { OnOk result (IfSome (S.left source.old) (λ bytes. (left right : List ℤ) → StandsFor committer.old bytes settings left right →
         S.left source.new ≡ Some (drop committer.old.windows.samples.remaining bytes))) }
-    ensures report { IfOk result (λ report. IfSome (S.left source.old) (λ bytes. (left right : List ℤ) → Stands committer.old bytes settings left right →
+    ensures report { IfOk result (λ report. IfSome (S.left source.old) (λ bytes. (left right : List ℤ) → StandsFor committer.old bytes settings left right →
         IsReport settings left right report)) }
     ensures ticks { IfOk result (λ report. (report.made ≡ report.tried) × (steps.new ≡ steps.old + report.made)) }
-    ensures rise { IfSome (S.left source.old) (λ bytes. (left right : List ℤ) → Stands committer.old bytes settings left right →
+    ensures rise { IfSome (S.left source.old) (λ bytes. (left right : List ℤ) → StandsFor committer.old bytes settings left right →
         steps.new ≤ steps.old + gains_tried settings left right) }
     ensures later_steps { steps.old ≤ steps.new }
     ensures cause { CountsFaults result (S.faults source.old) (S.faults source.new) (K.faults sink.old) (K.faults sink.new) }

@@ -2,7 +2,7 @@ ghost use Rattle.std.specs.Prelude.{◌≡◌, ◌<◌};
 
 use crate::{TurnFault, encode_turns};
 use l3_base::{Channels, Rate, SampleRate, Settings, Steps};
-use l3_commit::{Report, Running};
+use l3_commit::{Report, Committer};
 use l3_io::{MemSink, MemSource, read_full};
 use l3_wav::{Samples, WavHead};
 use std::alloc::{AllocError, Global};
@@ -37,7 +37,7 @@ fn encoded<L: Ledger + Send>(
     let mut source = MemSource::new(alloc, bytes, 2000, &[fails])?;
     let mut sink = MemSink::new(alloc, room, 300, &[])?;
     let mut steps: Steps<L> = Steps::start(blank);
-    let mut committer = Running::open(alloc, settings, 0, Samples::new(&head))?;
+    let mut committer = Committer::open(alloc, settings, 0, Samples::new(&head))?;
     let answer = encode_turns(settings, &mut committer, &mut source, &mut sink, &mut steps);
     Ok((answer, sink, source))
 }

@@ -6,13 +6,13 @@ ghost use Rattle.l3_windows.specs.Holding.{Holds};
 ghost use Rattle.l3_analysis.specs.Piece.{no_memos};
 ghost use Rattle.l3_stream.specs.declared.unit.ChosenFrame.{ChosenFrame};
 ghost use Rattle.l3_commit.specs.Encoding.{spectra_of};
-ghost use Rattle.l3_commit.specs.Running.{Stands};
+ghost use Rattle.l3_commit.specs.Standing.{StandsFor};
 ghost use Rattle.l3_commit.specs.Tracks.{next_of};
 ghost use Rattle.l3_commit.specs.Tried.{tried_at};
 ghost use Rattle.l3_turns.specs.Turning.{Breaks, IsBehind, Turns};
 
 use l3_base::{GranuleNo, Steps, WriteFault};
-use l3_commit::{GranuleDone, Running};
+use l3_commit::{GranuleDone, Committer};
 use l3_frames::FrameWriter;
 use l3_guess::Guesser;
 use l3_io::Sink;
@@ -23,7 +23,7 @@ use std::sync::ledger::Ledger;
 ///
 /// Errors: a write of the sink failed, or took nothing. Then nothing else may be called.
 pub fn turn<G: Guesser, K: Sink, L: Ledger + Send>(
-    committer: &mut Running,
+    committer: &mut Committer,
     number: GranuleNo,
     guesser: &mut G,
     writer: &mut FrameWriter,
@@ -40,13 +40,13 @@ pub fn turn<G: Guesser, K: Sink, L: Ledger + Send>(
     ensures next { OnOk result (next_of committer.new.track ≡ number + 1) }
     ensures few { OnOk result (length committer.new.track.granules < 2) }
     ensures same { OnOk result ((committer.new.windows ≡ committer.old.windows) × (committer.new.offers ≡ committer.old.offers)) }
-    ensures tried { IfOk result (λ done. (bytes : List ℕ) (st : Settings) (left right : List ℤ) → Stands committer.old bytes st left right →
+    ensures tried { IfOk result (λ done. (bytes : List ℕ) (st : Settings) (left right : List ℤ) → StandsFor committer.old bytes st left right →
         done.tried ≡ tried_at st (spectra_of left right) committer.old.track.frame (length committer.old.track.granules)) }
     ensures limit { IfOk result (λ done. done.tried ≤ 512) }
     ensures made { IfOk result (λ done. (done.made ≤ done.tried) × (steps.new ≡ steps.old + done.made)) }
     ensures alone { committer.old.own.memos ≡ no_memos → IfOk result (λ done. done.made ≡ done.tried) }
     ensures later { steps.old ≤ steps.new }
-    ensures rise { (bytes : List ℕ) (st : Settings) (left right : List ℤ) → Stands committer.old bytes st left right →
+    ensures rise { (bytes : List ℕ) (st : Settings) (left right : List ℤ) → StandsFor committer.old bytes st left right →
         steps.new ≤ steps.old + tried_at st (spectra_of left right) committer.old.track.frame (length committer.old.track.granules) }
     ensures told { (n : ℕ) → G.guesses guesser.new n ≡ G.guesses_after guesser.old number (min committer.old.track.reserve 4294967295) n }
     ensures cause { HasCause (K.faults sink.old) (K.faults sink.new) result }

@@ -1,10 +1,7 @@
 -- The samples of a WAV file, channel by channel.
-use Rattle.std.specs.Prelude.{◌≡◌, ℕ, List, [], ◌∷◌, ℤ}
+use Rattle.std.specs.Prelude.{ℕ, List, [], ◌∷◌, ℤ}
 use Rattle.l3_base.specs.declared.rate.Channels.{Channels}
 use Rattle.l3_base.specs.declared.rate.Channels.TheVariants.{Mono, Stereo}
-use Rattle.l3_io.specs.Causes.{count_after}
-use Rattle.l3_wav.specs.declared.pcm.PcmFault.{PcmFault}
-use Rattle.l3_wav.specs.declared.pcm.PcmFault.TheVariants.{Read, Memory}
 
 -- every other value, from the first
 abbrev pub firsts : List ℤ → List ℤ
@@ -30,9 +27,3 @@ right_of Stereo values = seconds values
 abbrev pub right_count : Channels → ℕ → ℕ
 right_count Mono count = 0
 right_count Stereo count = count
-
--- why all samples were not read: one read failed, the last one, or there was no memory and no read
--- failed
-abbrev pub PcmCause : ℕ → ℕ → PcmFault → Type 0
-PcmCause before now Read = now ≡ count_after before
-PcmCause before now Memory = now ≡ before

@@ -1,4 +1,4 @@
-use crate::{PcmFault, Samples, WavFault, WavHead, open, read_all};
+use crate::{Samples, WavFault, WavHead, open};
 use l3_base::{Channels, Failed, ReadFault, SampleRate};
 use l3_io::{MemSource, Source};
 use std::test::Fail;
@@ -181,32 +181,5 @@ fn a_read_fails_in_the_data(rt: HostRuntime) -> Result<(), Fail> {
     assert_eq!(rt; samples.next(&mut source, &mut out), Ok(2));
     assert_eq!(rt; samples.next(&mut source, &mut out), Err(ReadFault));
     assert_eq!(rt; samples.failed(), true);
-    Ok(())
-}
-
-#[test]
-fn samples_channel_by_channel(rt: HostRuntime) -> Result<(), Fail> {
-    // Two samples of stereo, or four of mono, and a byte that is none.
-    let bytes = [1, 0, 0xFF, 0xFF, 0, 0x80, 0xFF, 0x7F, 5];
-    let cases: [(Channels, &[i16], &[i16]); 2] = [
-        (Channels::Mono, &[1, -1, -32768, 32767], &[]),
-        (Channels::Stereo, &[1, -32768], &[-1, 32767]),
-    ];
-    for (channels, left, right) in cases {
-        let mut source = MemSource::new(rt.alloc(), &bytes, 3, &[])?;
-        let head = head(channels, SampleRate::Hz44100, 4294967295);
-        let same = read_all(rt.alloc(), &head, &mut source).map(|pcm| pcm.left.as_slice() == left
-            && pcm.right.as_slice() == right);
-        assert_eq!(rt; same, Ok(true));
-    }
-    let mut source = MemSource::new(rt.alloc(), &bytes, 3, &[2])?;
-    let head = head(Channels::Mono, SampleRate::Hz44100, 9);
-    let count = read_all(rt.alloc(), &head, &mut source).map(|pcm| pcm.left.len());
-    assert_eq!(rt; count, Err(PcmFault::Read));
-
-    // After the fault of the third read nothing more was read.
-    let mut rest = [1; 4];
-    assert_eq!(rt; source.read(&mut rest), Ok(3));
-    assert_eq!(rt; rest, [0xFF, 0x7F, 5, 1]);
     Ok(())
 }

@@ -78,7 +78,7 @@ impl Model for Windows {
 fn granules(samples: u64) -> u64
     requires { 2 * samples < 2 ^ 32 }
     ensures value { result ≡ granules_for samples }
-    ensures small { result ≤ 8589934592 }
+    ensures small { result ≤ 3728274 }
 {
     if samples == 0 {
         0
@@ -132,6 +132,7 @@ impl Windows {
         ensures same { (self.new.channels ≡ self.old.channels) × (self.new.ahead ≡ self.old.ahead) × (self.new.base ≡ self.old.base) }
         ensures further { OnOk result ((self.new.ended ≡ true) ⊎ (self.old.read < self.new.read)) }
         ensures few { self.new.read ≤ end }
+        ensures grows { self.old.read ≤ self.new.read }
         ensures short { OnOk result (self.new.ended ≡ true → self.new.read < end) }
         ensures stays { OnErr result (self.new.ended ≡ false) }
         ensures gone { OnOk result (AreGone self.old.samples.remaining self.new.samples.remaining (S.left source.old) (S.left source.new)) }
@@ -162,6 +163,7 @@ impl Windows {
         ensures same { (self.new.channels ≡ self.old.channels) × (self.new.ahead ≡ self.old.ahead) × (self.new.base ≡ self.old.base) }
         ensures at_hand { OnOk result ((self.new.ended ≡ true) ⊎ (end ≤ self.new.read)) }
         ensures few { self.new.read ≤ max self.old.read end }
+        ensures grows { self.old.read ≤ self.new.read }
         ensures short { OnOk result (self.old.ended ≡ false → self.new.ended ≡ true → self.new.read < end) }
         ensures idle { (self.old.ended ≡ true) ⊎ (end ≤ self.old.read) → IsOk result × (self.new ≡ self.old) × (source.new ≡ source.old) }
         ensures stays { OnErr result (self.new.ended ≡ false) }
@@ -204,6 +206,7 @@ impl Windows {
         // All that the windows need is at hand, and no sample behind it was read.
         ensures at_hand { OnOk result ((self.new.ended ≡ true) ⊎ (576 * (base + self.old.ahead) ≤ self.new.read)) }
         ensures few { self.new.read ≤ max self.old.read (576 * (base + self.old.ahead)) }
+        ensures grows { self.old.read ≤ self.new.read }
 
         // What is kept is that of the same samples, as far as the source tells its bytes.
         ensures content { OnOk result (GoesOn self.old self.new (S.left source.old) (S.left source.new)) }
@@ -233,11 +236,19 @@ impl Windows {
         Ok(())
     }
 
-    /// How many granules the samples have, two to a frame, once their end was read.
+    /// Whether a read has failed. Then no more may be read.
+    pub fn failed(&self) -> bool
+        ensures { result ≡ self.now.samples.failed }
+    {
+        self.samples.failed()
+    }
+
+    /// How many granules the samples have, two to a frame, once their end was read: no more than
+    /// those of 2147483647 samples.
     pub fn total(&self) -> Option<u64>
         ensures some { IfSome result (λ total. (self.now.ended ≡ true) × (total ≡ granules_for self.now.read)) }
         ensures none { IfNone result (self.now.ended ≡ false) }
-        ensures small { IfSome result (λ total. total ≤ 8589934592) }
+        ensures small { IfSome result (λ total. total ≤ 3728274) }
         ensures few { 2 * self.now.read < 2 ^ 32 }
     {
         if self.ended {

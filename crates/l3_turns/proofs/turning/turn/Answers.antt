@@ -1,7 +1,7 @@
 use Rattle.std.proofs.Common.{rules, arith, ◌≡◌, ap, length}
 use Rattle.std.proofs.lemmas.Grind.{common_steps}
 use Rattle.l3_analysis.specs.Piece.{spectrum_in}
-use Rattle.l3_commit.specs.Running.{RunningView}
+use Rattle.l3_commit.specs.Standing.{CommitterView}
 use Rattle.l3_turns.proofs.Pushed.{turns-first, turns-second, breaks-second, behind-granule, fits-next, not-true}
 use Rattle.l3_turns.proofs.turning.turn.Goals as goal
 
@@ -24,7 +24,7 @@ returns-in-Ok-clause-turns g c =
     let pushed = c.in-Ok.ensures in
     turns-second c.args.committer.now done.new.self (spectrum_in c.args.committer.now.own) c.args.writer.now c.push.new.self c.commit_frame.result.now (g.K.Sink.taken c.args.sink.now) (g.K.Sink.taken c.push.new.sink)
     done.ensures.value done.ensures.stands c.commit_frame.ensures.follows c.commit_frame.ensures.chosen
-    c.commit_frame.follows.lender-at-none (ap (λ (v : RunningView). v.track) c.commit_frame.follows.holds-at-none.0) c.commit_frame.follows.holds-at-none.1
+    c.commit_frame.follows.lender-at-none (ap (λ (v : CommitterView). v.track) c.commit_frame.follows.holds-at-none.0) c.commit_frame.follows.holds-at-none.1
     c.push.ensures.settings c.push.ensures.frames c.push.ensures.end (not-true c.push.new.self.failed pushed.failed.1) pushed.ok
 
 pub returns-in-Err-clause-breaks : goal.returns-in-Err-clause-breaks
