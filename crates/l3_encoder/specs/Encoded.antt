@@ -1,17 +1,19 @@
 -- What a WAV file is encoded as, and what an answer says of the input and the output of an
 -- encoding.
-use Rattle.std.specs.Prelude.{◌≡◌, ◌≢◌, ℕ, ◌-◌, List, length, drop, ℤ, Option, Some, None, Result, Ok, Err, IfSome, IsSomeAnd}
+use Rattle.std.specs.Prelude.{◌≡◌, ◌≢◌, ℕ, ◌-◌, ◌<◌, ◌^◌, List, All, length, drop, ℤ, Option, Some, None, Result, Ok, Err, IfSome, IsSomeAnd, ⊤}
 use Rattle.l3_base.specs.declared.rate.Rate.{Rate}
 use Rattle.l3_base.specs.declared.settings.Settings.{Settings}
 use Rattle.l3_base.specs.Lengths.{frames_for}
 use Rattle.l3_io.specs.Causes.{count_after}
-use Rattle.l3_io.specs.Taken.{Takes, TakesPrefix}
+use Rattle.l3_io.specs.Taken.{Stands, Takes, TakesPrefix}
 use Rattle.l3_wav.specs.declared.head.WavHead.{WavHead}
 use Rattle.l3_wav.specs.declared.fault.WavFault.{WavFault}
 use Rattle.l3_wav.specs.declared.fault.WavFault.TheVariants as fault
 use Rattle.l3_wav.specs.Wav.{wav_of, after_head, HasLost}
 use Rattle.l3_wav.specs.Samples.{coming, unread}
 use Rattle.l3_wav.specs.Pcm.{left_of, right_of}
+use Rattle.l3_stream.specs.declared.unit.ChosenFrame.{ChosenFrame}
+use Rattle.l3_stream.specs.Tape.{FramesFit, stream_of}
 use Rattle.l3_commit.specs.declared.report.Report.{Report}
 use Rattle.l3_commit.specs.declared.report.EncodeFault.{EncodeFault}
 use Rattle.l3_commit.specs.declared.report.EncodeFault.TheVariants.{Memory, Wav, Read, Write}
@@ -75,29 +77,61 @@ pub record IsReport (rate : Rate) (bytes : List ℕ) (report : Report) : Type 0 
 abbrev pub IsAccepted : List ℕ → Type 0
 IsAccepted bytes = (head : WavHead) × (wav_of bytes ≡ Ok head)
 
+-- they are bytes
+abbrev pub AreBytes : List ℕ → Type 0
+AreBytes bytes = All (λ byte. byte < 2 ^ 8) bytes
+
+-- a front of a stream was taken; where there is none, nothing
+abbrev pub TakesFrontOf : Option (List ℕ) → (old new : List ℕ → Type 0) → Type 0
+TakesFrontOf (Some stream) old new = TakesPrefix old new stream
+TakesFrontOf None old new = Stands old new
+
+-- of the encoding of a file a front was taken
+abbrev pub TakesFront : Rate → List ℕ → SinkChange → Type 0
+TakesFront rate bytes sink = AreBytes bytes → TakesFrontOf (encoding_in rate bytes) sink.taken sink.taken_now
+
 -- what an answer says of the bytes that were read and written
 abbrev pub ExplainsReport : Rate → Result Report EncodeFault → SourceChange → SinkChange → Type 0
-ExplainsReport rate (Ok report) source sink = (report.made ≡ report.tried) × IfSome source.left (λ bytes.
+ExplainsReport rate (Ok report) source sink = IfSome source.left (λ bytes.
     IsSomeAnd (encoding_in rate bytes) (λ stream. Takes sink.taken sink.taken_now stream) × IsReport rate bytes report)
 ExplainsReport rate (Err Memory) source sink = IfSome source.left IsAccepted × sink.untouched
 ExplainsReport rate (Err (Wav why)) source sink =
     IfSome source.left (λ bytes. wav_of bytes ≡ Err why) × (why ≢ fault.Read) × sink.untouched
-ExplainsReport rate (Err Read) source sink = sink.untouched
-ExplainsReport rate (Err Write) source sink = IfSome source.left (λ bytes.
-    IsSomeAnd (encoding_in rate bytes) (λ stream. TakesPrefix sink.taken sink.taken_now stream))
+ExplainsReport rate (Err Read) source sink = IfSome source.left (λ bytes. TakesFront rate bytes sink)
+ExplainsReport rate (Err Write) source sink = IfSome source.left (λ bytes. IsAccepted bytes × TakesFront rate bytes sink)
+
+-- whatever the source tells: the stream of some frames that fit, at this rate, was taken, as many as
+-- are told of; after a fault of reading or writing a front of it; and at any other answer nothing
+abbrev pub GivesSomeFrames : Rate → Result Report EncodeFault → SinkChange → Type 0
+GivesSomeFrames rate (Ok report) sink = (st : Settings) × (fs : List ChosenFrame) × (st.rate ≡ rate) × FramesFit st 0 0 fs
+    × Takes sink.taken sink.taken_now (stream_of st fs) × (report.frames ≡ length fs)
+GivesSomeFrames rate (Err Memory) sink = sink.untouched
+GivesSomeFrames rate (Err (Wav why)) sink = sink.untouched
+GivesSomeFrames rate (Err Read) sink = (st : Settings) × (fs : List ChosenFrame) × (st.rate ≡ rate) × FramesFit st 0 0 fs
+    × TakesPrefix sink.taken sink.taken_now (stream_of st fs)
+GivesSomeFrames rate (Err Write) sink = (st : Settings) × (fs : List ChosenFrame) × (st.rate ≡ rate) × FramesFit st 0 0 fs
+    × TakesPrefix sink.taken sink.taken_now (stream_of st fs)
 
 -- of head and data no more than all is gone; of a refused file no more than what refuses it
 abbrev pub HasReadSome : List ℕ → Option (List ℕ) → Type 0
 HasReadSome bytes now = HasLost (length bytes - length (rest_in bytes)) bytes now
 
--- what an answer leaves of a file: what follows its data, or the bytes that refuse it;
--- where a read failed or memory ran out, that or more
+-- what an answer leaves of a file: what follows its data, or the bytes that refuse it; where memory
+-- ran out, what follows its head; where a read or a write failed, what follows the data or more
 abbrev pub LeavesInput : Result Report EncodeFault → List ℕ → Option (List ℕ) → Type 0
 LeavesInput (Ok report) bytes now = now ≡ Some (rest_in bytes)
-LeavesInput (Err Memory) bytes now = HasReadSome bytes now
+LeavesInput (Err Memory) bytes now = now ≡ Some (after_head bytes)
 LeavesInput (Err (Wav why)) bytes now = now ≡ Some (rest_in bytes)
 LeavesInput (Err Read) bytes now = HasReadSome bytes now
-LeavesInput (Err Write) bytes now = now ≡ Some (rest_in bytes)
+LeavesInput (Err Write) bytes now = HasReadSome bytes now
+
+-- the answer comes before the first granule is counted
+abbrev pub IsBeforeFirst : Result Report EncodeFault → Type 0
+IsBeforeFirst (Ok report) = ⊥
+IsBeforeFirst (Err Memory) = ⊤
+IsBeforeFirst (Err (Wav why)) = ⊤
+IsBeforeFirst (Err Read) = ⊥
+IsBeforeFirst (Err Write) = ⊥
 
 -- how many faults the source counts: one at a read fault, and else none
 abbrev pub CountsReads : Result Report EncodeFault → SourceChange → Type 0

@@ -12,7 +12,7 @@ use Rattle.l3_stream.specs.Tape.{Spells}
 use Rattle.l3_stream.specs.Deviation.{content_of, reading_of, deviation_of}
 use Rattle.l3_stream.specs.StreamLaws.{AreSame}
 use Rattle.l3_commit.specs.Encoding.{frames_chosen}
-use Rattle.l3_encoder.specs.Encoded.{settings_with, values_in, left_in, right_in, encoding_in}
+use Rattle.l3_encoder.specs.Encoded.{AreBytes, settings_with, values_in, left_in, right_in, encoding_in}
 
 -- the most frames that a stream is read with
 abbrev pub read_limit : ℕ
@@ -50,5 +50,5 @@ pub record IsStreamOfFile (rate : Rate) (bytes stream : List ℕ) : Type 0 where
 
 -- whatever bytes a file has, and at every rate, what it is encoded to is such a stream
 abbrev pub FilesAreEncoded : Type 0
-FilesAreEncoded = (rate : Rate) (bytes stream : List ℕ) → All (λ byte. byte < 2 ^ 8) bytes →
+FilesAreEncoded = (rate : Rate) (bytes stream : List ℕ) → AreBytes bytes →
     encoding_in rate bytes ≡ Some stream → IsStreamOfFile rate bytes stream

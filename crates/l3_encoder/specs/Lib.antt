@@ -2,5 +2,4 @@ pub use Rattle.l3_commit.specs.Encoding
 pub use Rattle.l3_wav.specs.Wav
 pub mod Changes
 pub mod Encoded
-pub mod Input
 pub mod FileLaws

@@ -6,12 +6,13 @@
 
 mod alone;
 mod file_laws;
-mod input;
-mod stream;
+mod with;
 
 pub use alone::encode_alone;
 pub use file_laws::files_are_encoded;
 pub use l3_commit::{EncodeFault, Report};
+pub use l3_workers::{Gate, Lanes, OpenGate};
+pub use with::encode_with;
 
 #[cfg(test)]
 mod tests;
