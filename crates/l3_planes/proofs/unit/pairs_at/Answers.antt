@@ -6,8 +6,8 @@ use Rattle.l3_planes.proofs.GainLemmas.{pairs_are}
 use Rattle.l3_planes.proofs.MarkLemmas.{equal_mark}
 use Rattle.l3_planes.proofs.unit.pairs_at.Goals as goal
 
-pub returns-then-eq : goal.returns-then-eq
-returns-then-eq c lines are =
+pub returns-then-is_plain : goal.returns-then-is_plain
+returns-then-is_plain c lines are =
     let rate = c.args.rate in
     let amp = c.args.amp.now in
     let gain = c.args.gain in
@@ -18,8 +18,8 @@ returns-then-eq c lines are =
     let is = equal_mark (hertz_index_of rate) gain amp c.equal_key.result mark (search rules) c.equal_key.ensures.value c.mark.ensures in
     pairs_are rate amp gain lines c.count_pairs_above.new.out are.peaks_are.long (each lines (line_steps (hertz_index_of rate) amp gain) are.rows are.tops is)
 
-pub returns-else-eq : goal.returns-else-eq
-returns-else-eq c lines are =
+pub returns-else-is_plain : goal.returns-else-is_plain
+returns-else-is_plain c lines are =
     let rate = c.args.rate in
     let amp = c.args.amp.now in
     let gain = c.args.gain in
