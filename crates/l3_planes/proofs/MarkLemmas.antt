@@ -10,7 +10,7 @@ use Rattle.l3_quant.specs.Amplified.{band_of}
 use Rattle.l3_quant.proofs.BandLemmas.{band_of-holds}
 use Rattle.l3_planes.specs.Planes.{key_at}
 use Rattle.l3_planes.specs.Rows.{line_at}
-use Rattle.l3_planes.specs.Marks.{AreKeys, AreMarks, band_steps, line_steps}
+use Rattle.l3_planes.specs.Marks.{AreKeys, AreMarks, IsMark, band_steps, line_steps}
 use Rattle.l3_planes.proofs.GainLemmas.{equal_steps, one_cell}
 
 -- the mark of a key
@@ -76,15 +76,8 @@ all_marked rate amp gain keys marks key least small are marked lowest e = record
         marked (band_of (edges_at rate) (line_at cell)) cell is.band_lt lt is.from is.to
 
 -- one mark for all where no band is amplified
-pub equal_marks : (rate gain : ℕ) (amp keys : List ℕ) (marks : List ℤ) (mark : ℤ) → amp ≡ no_amp → AreKeys amp gain keys → mark ≡ mark_of (get_or keys 0 0) →
-    ((cell : ℕ) → cell < 576 → get_or marks cell (pos 0) ≡ mark) → AreMarks (line_steps rate amp gain) marks mark
-equal_marks rate gain amp keys marks mark none are e same = record {
-  is = λ cell lt.
-      let b = band_of (edges_at rate) (line_at cell) in
-      let first : get_or keys 0 0 ≡ key_at (band_steps amp gain b) = are 0 (omega arith) ∙ ap key_at (steps 0 ∙ sym (steps b)) in
-      same cell lt ∙ (e ∙ ap mark_of first);
-  least_is = λ cell lt. omega (arith, ints, same cell lt);
-}
-  where
-    steps : (b : ℕ) → band_steps amp gain b ≡ steps_of (pos gain)
-    steps b = ap (λ a. band_steps a gain b) none ∙ equal_steps gain b
+pub equal_mark : (rate gain : ℕ) (amp : List ℕ) (key : ℕ) (mark : ℤ) → amp ≡ no_amp → key ≡ key_at (steps_of (pos gain)) → mark ≡ mark_of key → IsMark (line_steps rate amp gain) mark
+equal_mark rate gain amp key mark none is e line =
+    let b = band_of (edges_at rate) line in
+    let steps : band_steps amp gain b ≡ steps_of (pos gain) = ap (λ a. band_steps a gain b) none ∙ equal_steps gain b in
+    e ∙ ap mark_of (is ∙ ap key_at (sym steps))

@@ -26,6 +26,11 @@ pub record AreMarks (steps : ℕ → ℕ) (marks : List ℤ) (least : ℤ) : Typ
       slice_index_or marks cell (pos 0) ≡ pos (key_at (steps (line_at cell))) -ℤ pos 129
   pub least_is : (cell : ℕ) → cell < 576 → least ≤ℤ slice_index_or marks cell (pos 0)
 
+-- one number that stored planes of all cells are above where they reach the key of the line's own
+-- quarter steps
+abbrev pub IsMark : (ℕ → ℕ) → ℤ → Type 0
+IsMark steps mark = (line : ℕ) → mark ≡ pos (key_at (steps line)) -ℤ pos 129
+
 -- the value of a line that has so many quarter steps of its own, cut at 15
 abbrev pub cut_at : List ℤ → (ℕ → ℕ) → ℕ → ℕ
 cut_at lines steps i = min (magnitude_at (size_at lines i) (steps i)) 15

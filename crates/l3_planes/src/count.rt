@@ -1,6 +1,6 @@
 ghost use Rattle.std.specs.Prelude.{◌≡◌, ℕ, List, ℤ, ◌+◌, ◌*◌, ◌<◌, ◌≤◌, ◌<ℤ◌, ◌≤ℤ◌, length, min, pos, replicate, slice_index, slice_index_or};
 ghost use Rattle.l3_planes.specs.Rows.{line_at, AreRows, AreTops};
-ghost use Rattle.l3_planes.specs.Marks.{cut_at, AreMarks};
+ghost use Rattle.l3_planes.specs.Marks.{cut_at, AreMarks, IsMark};
 
 // No counts yet.
 #[inline(always)]
@@ -43,6 +43,22 @@ fn with_row(
     more
 }
 
+// The counts with 1 more where the plane of a row is above one mark.
+#[inline(always)]
+fn with_row_above(counts: &[u8; 32], rows: &[i8; 8640], row: usize, mark: i8) -> [u8; 32]
+    requires row { row < 270 }
+    requires room { (j : ℕ) → j < 32 → slice_index counts.now j < 15 }
+    ensures long { length result ≡ 32 }
+    ensures above { (j : ℕ) → j < 32 → mark <ℤ slice_index_or rows.now (32 * row + j) (pos 0) → slice_index result j ≡ slice_index counts.now j + 1 }
+    ensures others { (j : ℕ) → j < 32 → slice_index_or rows.now (32 * row + j) (pos 0) ≤ℤ mark → slice_index result j ≡ slice_index counts.now j }
+{
+    let mut more = no_counts();
+    for j in 0..32 {
+        more[j] = counted(counts[j], rows[32 * row + j], mark);
+    }
+    more
+}
+
 // The values of a block's cells, cut at 15. Rows from the first on that no plane of the block
 // reaches are left out.
 #[inline(always)]
@@ -65,6 +81,25 @@ fn count_block(
             return counts;
         }
         counts = with_row(&counts, rows, 15 * block + k, marks, block);
+    }
+    counts
+}
+
+// The same where all cells have one mark.
+#[inline(always)]
+fn count_block_above(rows: &[i8; 8640], tops: &[i8; 270], block: usize, mark: i8) -> [u8; 32]
+    requires { block < 18 }
+    ensures long { length result ≡ 32 }
+    ensures value { (lines : List ℤ) (steps : ℕ → ℕ) → AreRows lines rows.now → AreTops rows.now tops.now → IsMark steps mark → (j : ℕ) → j < 32 →
+        slice_index result j ≡ cut_at lines steps (line_at (32 * block + j)) }
+    ensures bound { (j : ℕ) → j < 32 → slice_index result j ≤ 15 }
+{
+    let mut counts = no_counts();
+    for k in 0..15 {
+        if tops[15 * block + k] <= mark {
+            return counts;
+        }
+        counts = with_row_above(&counts, rows, 15 * block + k, mark);
     }
     counts
 }
@@ -97,6 +132,17 @@ pub(crate) fn count_pairs(
 {
     for block in 0..18 {
         let counts = count_block(rows, tops, block, marks, least);
+        write_pairs(&counts, block, out);
+    }
+}
+
+// Writes the pairs of all cut values, for one mark of all cells.
+pub(crate) fn count_pairs_above(rows: &[i8; 8640], tops: &[i8; 270], mark: i8, out: &mut [u8; 288])
+    ensures { (lines : List ℤ) (steps : ℕ → ℕ) → AreRows lines rows.now → AreTops rows.now tops.now → IsMark steps mark → (i : ℕ) → i < 288 →
+        slice_index out.new i ≡ 16 * cut_at lines steps (2 * i) + cut_at lines steps (2 * i + 1) }
+{
+    for block in 0..18usize {
+        let counts = count_block_above(rows, tops, block, mark);
         write_pairs(&counts, block, out);
     }
 }

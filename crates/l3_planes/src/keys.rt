@@ -1,4 +1,4 @@
-ghost use Rattle.std.specs.Prelude.{◌≡◌, ◌<◌, ◌≤◌, ◌*◌, ℕ, length, pos, replicate, slice_index};
+ghost use Rattle.std.specs.Prelude.{◌≡◌, ◌<◌, ◌≤◌, ◌*◌, ℕ, length, pos, replicate, slice_index, true};
 ghost use Rattle.l3_base.specs.Amp.{IsAmp, no_amp};
 ghost use Rattle.l3_quant.specs.Quantiser.{steps_of};
 ghost use Rattle.l3_planes.specs.Planes.{key_at};
@@ -69,6 +69,14 @@ fn band_keys(amp: &Amp, gain: u8) -> [u8; 32]
     keys
 }
 
+// Whether no band is amplified.
+#[inline(always)]
+pub(crate) fn is_plain(amp: &Amp) -> bool
+    ensures { result ≡ true → amp.now ≡ no_amp }
+{
+    *amp == Amp::zero()
+}
+
 // The keys of all bands at a gain.
 #[inline(always)]
 pub(crate) fn keys_at(amp: &Amp, gain: u8) -> [u8; 32]
@@ -76,7 +84,7 @@ pub(crate) fn keys_at(amp: &Amp, gain: u8) -> [u8; 32]
     ensures some { (b : ℕ) → b < 22 → 0 < slice_index result b }
     ensures long { length result ≡ 32 }
 {
-    if *amp == Amp::zero() {
+    if is_plain(amp) {
         equal_keys(gain)
     } else {
         band_keys(amp, gain)

@@ -9,7 +9,7 @@ use l3_tables::edge;
 
 // What the stored planes that reach a key are above.
 #[inline(always)]
-fn mark(key: u8) -> i8
+pub(crate) fn mark(key: u8) -> i8
     requires { 0 < key }
     ensures { result ≡ pos key -ℤ pos 129 }
 {
@@ -52,28 +52,10 @@ fn write_marks(keys: &[u8; 32], rate: SampleRate, marks: &mut [i8; 576]) -> i8
     mark(least_key(keys))
 }
 
-// Writes one mark to all cells.
-#[inline(always)]
-fn fill_marks(mark: i8, marks: &mut [i8; 576])
-    ensures { (cell : ℕ) → cell < 576 → slice_index_or marks.new cell (pos 0) ≡ mark }
-{
-    for cell in 0..576 {
-        marks[cell] = mark;
-    }
-}
-
-// Writes the marks of all cells at a gain, and gives one that is no greater than any of them. Where
-// no band is amplified all are the same.
+// Writes the marks of all cells at a gain, and gives one that is no greater than any of them.
 #[inline(always)]
 pub(crate) fn marks_at(rate: SampleRate, amp: &Amp, gain: u8, marks: &mut [i8; 576]) -> i8
     ensures { AreMarks (line_steps (hertz_index_of rate) amp.now gain) marks.new result }
 {
-    let keys = keys_at(amp, gain);
-    if *amp == Amp::zero() {
-        let mark = mark(keys[0]);
-        fill_marks(mark, marks);
-        mark
-    } else {
-        write_marks(&keys, rate, marks)
-    }
+    write_marks(&keys_at(amp, gain), rate, marks)
 }

@@ -11,9 +11,9 @@ ghost use Rattle.l3_planes.specs.Marks.{ArePacked};
 ghost use Rattle.l3_planes.specs.Units.{ArePlanesOf};
 
 use crate::bands::{band_classes, is_coded, write_classes};
-use crate::count::count_pairs;
-use crate::keys::{equal_key, keys_at};
-use crate::marks::marks_at;
+use crate::count::{count_pairs, count_pairs_above};
+use crate::keys::{equal_key, is_plain, keys_at};
+use crate::marks::{mark, marks_at};
 use crate::rows::{rank_lines, write_rows, write_tops};
 use crate::split::{split, write_ends};
 use l3_base::{Amp, SampleRate, Spectrum};
@@ -73,9 +73,13 @@ fn no_marks() -> [i8; 576] {
 pub fn pairs_at(planes: &Planes, rate: SampleRate, amp: &Amp, gain: u8, out: &mut [u8; 288])
     ensures { (lines : List ℤ) → ArePlanesOf (band_edges rate) lines planes.now → ArePacked (quantised_bands (band_edges rate) amp.now (pos gain) lines) out.new }
 {
-    let mut marks = no_marks();
-    let least = marks_at(rate, amp, gain, &mut marks);
-    count_pairs(&planes.rows, &planes.tops, &marks, least, out);
+    if is_plain(amp) {
+        count_pairs_above(&planes.rows, &planes.tops, mark(equal_key(gain)), out);
+    } else {
+        let mut marks = no_marks();
+        let least = marks_at(rate, amp, gain, &mut marks);
+        count_pairs(&planes.rows, &planes.tops, &marks, least, out);
+    }
 }
 
 /// The split of the quantised values at a gain, where no band is amplified.

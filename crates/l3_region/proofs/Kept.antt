@@ -5,7 +5,7 @@ use Rattle.std.proofs.lemmas.Bool.{cases_lt, le-leb, lt-leb}
 use Rattle.l3_tables.specs.Lists.{entry}
 use Rattle.l3_tables.proofs.ListLemmas.{get_or-tabulate}
 use Rattle.l3_tables.specs.Bands.{edge_at}
-use Rattle.l3_region.specs.Lanes.{AreKept, cell_at, extra_of, lane_class, lane_of, lane_sum, place_of, row_at, rows_of, short_at, short_sum, sum_at}
+use Rattle.l3_region.specs.Lanes.{AreKept, cell_at, extra_of, lane_class, lane_of, lane_sum, pairs_at, place_of, row_at, rows_of, short_at, short_sum, sum_at}
 use Rattle.l3_tables.proofs.Edges.{edge_order}
 use Rattle.l3_region.proofs.LaneLemmas.{lane_sum-le, lane_sum-more, lane_sum-none, place_small}
 use Rattle.l3_region.proofs.Tables.{short_small}
@@ -105,15 +105,11 @@ short_rises-by q t i (suc n) =
     let same : i + suc n ≡ i + n + 1 = omega arith in
     rw same (omega (arith, short_rises-by q t i n, short_sum-more q t (i + n)))
 
-short_rises : (q : List ℤ) (t i j : ℕ) → i ≤ j → short_sum q t i ≤ short_sum q t j
+pub short_rises : (q : List ℤ) (t i j : ℕ) → i ≤ j → short_sum q t i ≤ short_sum q t j
 short_rises q t i j le =
     let same : i + (j - i) ≡ j = omega arith in
     let grows = short_rises-by q t i (j - i) in
     rw same at grows
-
--- the number of pairs up to an edge, the last edge thrice
-abbrev pub pairs_at : ℕ → ℕ → ℕ → ℕ
-pairs_at rate end b = min (edge_at rate (min b 22)) end / 2
 
 -- each cell is the sum up to its edge
 abbrev pub AreCells : List ℤ → ℕ → ℕ → List (List ℕ) → Type 0
@@ -122,6 +118,13 @@ AreCells lines rate end sums = (t b : ℕ) → t < 16 → b < 25 → cell_at sum
 extra_last : extra_of (lane_class 19) ≡ 9
 unfolding extra_of lane_class
 extra_last = refl
+
+-- in the lane of most linbits pairs take at most 32 bits each
+pub long_small : (lines : List ℤ) (n : ℕ) → n ≤ 288 → short_sum lines 12 n + 9 * short_sum lines 13 n ≤ 9216
+long_small lines n within =
+    let whole = lane_sum-is lines 19 n ∙ lane_of-long (λ t. short_sum lines t n) 19 (omega arith) in
+    let nine : extra_of (lane_class 19) * short_sum lines 13 n ≡ 9 * short_sum lines 13 n = ap (λ e. e * short_sum lines 13 n) extra_last in
+    omega (arith, within, whole, nine, lane_sum-le lines 19 n (omega arith))
 
 pub kept_from : (lines : List ℤ) (rate end : ℕ) (sums : List (List ℕ)) → rate < 3 → end ≤ 576 → length sums ≡ 16 → ((t : ℕ) → t < 16 → length (get_or sums t []) ≡ 32) → AreCells lines rate end sums → AreKept sums
 kept_from lines rate end sums lt within lanes edges cells = record {
@@ -135,11 +138,7 @@ kept_from lines rate end sums lt within lanes edges cells = record {
         short_rises lines t (pairs_at rate end i) (pairs_at rate end j) (omega (arith, edge_order rate (min i 22) (min j 22) lt (omega arith) (omega arith))),
       );
   small = λ t b small few. omega (arith, within, cells t b small few, short_sum-le lines t (pairs_at rate end b) (omega arith));
-  linbits = λ b few.
-      let n = pairs_at rate end b in
-      let whole = lane_sum-is lines 19 n ∙ lane_of-long (λ t. short_sum lines t n) 19 (omega arith) in
-      let nine : extra_of (lane_class 19) * short_sum lines 13 n ≡ 9 * short_sum lines 13 n = ap (λ e. e * short_sum lines 13 n) extra_last in
-      omega (arith, within, cells 12 b (omega arith) few, cells 13 b (omega arith) few, whole, nine, lane_sum-le lines 19 n (omega arith));
+  linbits = λ b few. omega (arith, cells 12 b (omega arith) few, cells 13 b (omega arith) few, long_small lines (pairs_at rate end b) (omega (arith, within)));
 }
 
 pub rows_from : (lines : List ℤ) (rate end : ℕ) (sums : List (List ℕ)) → AreCells lines rate end sums → (b k : ℕ) → b < 23 → k < 24 → sum_at (rows_of sums) b k ≡ lane_sum lines k (min (edge_at rate b) end / 2)

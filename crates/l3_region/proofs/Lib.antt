@@ -10,6 +10,7 @@ pub mod CutLines
 pub mod Unpacked
 pub mod Ranges
 pub mod Kept
+pub mod LaneSums
 pub mod Regional
 pub mod Keys
 pub mod CutClasses

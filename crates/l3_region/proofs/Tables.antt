@@ -100,6 +100,11 @@ pub lane_class-lt : (k : ℕ) → k < 24 → lane_class k < 14
 unfolding lane_class
 lane_class-lt k lt = ltb-true _ _ (agree_below_at (λ j. ltb (lane_class j) 14) (λ _. true) 24 k refl lt)
 
+-- tables without linbits hold no class above 5
+pub lane_class-short : (k : ℕ) → k < 12 → lane_class k ≤ 5
+unfolding lane_class
+lane_class-short k lt = leb-true _ _ (agree_below_at (λ j. leb (lane_class j) 5) (λ _. true) 12 k refl lt)
+
 pub bound_last : bound_at 13 ≡ 8206
 unfolding bound_at
 bound_last = refl

@@ -1,6 +1,6 @@
 -- The code tables side by side, a lane each, and sums over them. Other crates speak of places of
 -- pairs and of classes of values alone.
-use Rattle.std.specs.Prelude.{◌≡◌, ◌<◌, ◌≤◌, ◌+◌, ◌-◌, ◌*◌, ◌/◌, ◌%◌, ◌^◌, ℕ, zero, suc, nat_le, Bool, true, false, if◌then◌else◌, ◌⊎◌, List, [], max, min, slice_index, slice_index_or, ℤ, unsigned_abs, All, length, slice_range}
+use Rattle.std.specs.Prelude.{◌≡◌, ◌≢◌, ◌<◌, ◌≤◌, ◌+◌, ◌-◌, ◌*◌, ◌/◌, ◌%◌, ◌^◌, ℕ, zero, suc, nat_le, Bool, true, false, if◌then◌else◌, ◌⊎◌, List, [], max, min, slice_index, slice_index_or, ℤ, unsigned_abs, All, length, slice_range}
 use Rattle.l3_tables.specs.Lists.{entry, tabulate}
 use Rattle.l3_tables.specs.Bands.{edge_at}
 use Rattle.l3_region.specs.Regions.{holds_all}
@@ -140,15 +140,17 @@ one_above bound value = if nat_le value bound then 0 else 1
 abbrev pub values_between : List ℤ → ℕ → ℕ → ℕ → ℕ → List ℤ
 values_between q rate end i j = slice_range q (min (edge_at rate i) end) (min (edge_at rate j) end)
 
--- rows and classes are those of the values up to a line: the sums of each lane up to each band, and
--- the class of each band
+-- rows and classes are those of the values up to a line: between two bands the sums of each lane that
+-- holds the values there grow by their bits, and the class of each band
 pub record AreSumsOf (q : List ℤ) (rate end : ℕ) (rows : List (List ℕ)) (classes : List ℕ) : Type 0 where
   pub rate_small : rate < 3
   pub even : end % 2 ≡ 0
   pub within : end ≤ 576
   pub long : length q ≡ 576
   pub codable : All (λ x. unsigned_abs x ≤ 8191) q
-  pub sums : (b k : ℕ) → b < 23 → k < 24 → sum_at rows b k ≡ lane_sum q k (min (edge_at rate b) end / 2)
+  pub ready : AreSums rows classes
+  pub sums : (i n k : ℕ) → i + n ≤ 22 → k < 24 → class_from classes i n ≤ lane_class k →
+      sum_at rows (i + n) k + lane_sum q k (min (edge_at rate i) end / 2) ≡ sum_at rows i k + lane_sum q k (min (edge_at rate (i + n)) end / 2)
   pub classed : (b : ℕ) → b < 22 → IsClass (values_between q rate end b (b + 1)) (slice_index classes b)
   pub few : (b : ℕ) → b < 22 → slice_index classes b < 14
 
@@ -169,6 +171,32 @@ pub record AreKept (sums : List (List ℕ)) : Type 0 where
   pub rising : (t i j : ℕ) → t < 16 → i ≤ j → j < 25 → cell_at sums t i ≤ cell_at sums t j
   pub small : (t b : ℕ) → t < 16 → b < 25 → cell_at sums t b ≤ 9216
   pub linbits : (b : ℕ) → b < 25 → cell_at sums 12 b + 9 * cell_at sums 13 b ≤ 9216
+
+-- the number of pairs up to an edge, the last edge thrice
+abbrev pub pairs_at : ℕ → ℕ → ℕ → ℕ
+pairs_at rate end b = min (edge_at rate (min b 22)) end / 2
+
+-- all lanes have the sums of what is kept up to each edge
+pub record AreAllSums (lines : List ℤ) (rate end : ℕ) (sums : List (List ℕ)) : Type 0 where
+  pub lanes : length sums ≡ 16
+  pub edges : (t : ℕ) → t < 16 → length (slice_index_or sums t []) ≡ 32
+  pub summed : (t b : ℕ) → t < 16 → b < 25 → cell_at sums t b ≡ short_sum lines t (pairs_at rate end b)
+
+-- lanes 12 and 13 have these sums, and the others zeros
+pub record AreLongSums (lines : List ℤ) (rate end : ℕ) (sums : List (List ℕ)) : Type 0 where
+  pub lanes : length sums ≡ 16
+  pub edges : (t : ℕ) → t < 16 → length (slice_index_or sums t []) ≡ 32
+  pub summed : (t b : ℕ) → 12 ≤ t → t < 14 → b < 25 → cell_at sums t b ≡ short_sum lines t (pairs_at rate end b)
+  pub zeros : (t b : ℕ) → t < 16 → t ≢ 12 → t ≢ 13 → cell_at sums t b ≡ 0
+
+-- only tables with linbits hold the values of each band that begins before the end
+abbrev pub NeedLinbits : ℕ → ℕ → List ℕ → Type 0
+NeedLinbits rate end classes = (b : ℕ) → b < 22 → edge_at rate b < end → 6 ≤ slice_index classes b
+
+-- sums that are enough for the choice: of all lanes, or of those with linbits where others hold no
+-- region with values
+abbrev pub AreLaneSums : List ℤ → ℕ → ℕ → List ℕ → List (List ℕ) → Type 0
+AreLaneSums lines rate end classes sums = AreAllSums lines rate end sums ⊎ (NeedLinbits rate end classes × AreLongSums lines rate end sums)
 
 -- the edge of one of sixteen regions: they begin or end at one edge, or at one after the other
 abbrev pub edge_in : ℕ → Bool → ℕ → ℕ

@@ -1,11 +1,12 @@
 //! Sums of the bits of pairs up to each band, lane by lane, and the class of each band's greatest
 //! value.
 
-ghost use Rattle.std.specs.Prelude.{◌≡◌, ◌≢◌, ◌<◌, ◌≤◌, ◌+◌, ◌*◌, ◌/◌, ◌%◌, ◌^◌, ℕ, ℤ, List, All, length, min, nat_le, replicate, slice_index, slice_index_or, slice_range, []};
+ghost use Rattle.std.specs.Prelude.{◌≡◌, ◌≢◌, ◌<◌, ◌≤◌, ◌+◌, ◌*◌, ◌/◌, ◌%◌, ◌^◌, ℕ, ℤ, List, All, false, length, min, nat_le, replicate, slice_index, slice_index_or, slice_range, []};
+ghost use Rattle.std.specs.Bool.{OnTrue};
 ghost use Rattle.std.specs.List.{list_all};
 ghost use Rattle.l3_tables.specs.Bands.{edge_at, edges_at};
 ghost use Rattle.l3_region.specs.Split.{end_of_pairs};
-ghost use Rattle.l3_region.specs.Lanes.{AreKept, AreSums, AreSumsOf, cell_at, rows_of, short_sum};
+ghost use Rattle.l3_region.specs.Lanes.{AreAllSums, AreKept, AreLaneSums, AreLongSums, AreSums, AreSumsOf, NeedLinbits, cell_at, rows_of, short_sum};
 ghost use Rattle.l3_region.specs.Pairs.{ArePairsOf, IsBandClass, lines_in};
 
 use crate::lanes::no_classes;
@@ -149,6 +150,123 @@ fn part_classes(pairs: &[u8; 288], classes: &[u8; 32], rate: usize, end: usize) 
     own
 }
 
+// Whether a table without linbits holds the values of a band that begins before the end of the
+// pairs.
+#[inline(always)]
+fn is_short(from: usize, end: usize, class: u16) -> bool
+    ensures { result ≡ false → from < end → 6 ≤ class }
+{
+    if class <= 5 { from < end } else { false }
+}
+
+// Whether only tables with linbits hold the values of each band that begins before the end of the
+// pairs.
+fn need_linbits(parts: &Classes, end: usize, rate: usize) -> bool
+    requires { rate < 3 }
+    ensures { OnTrue result (NeedLinbits rate end parts.now) }
+{
+    let mut band = 22usize;
+    while band > 0 {
+        band -= 1;
+        if is_short(usize::from(edge(rate, band)), end, parts[band]) {
+            return false;
+        }
+    }
+    true
+}
+
+// The bits of a pair in table 24 and, above 16 digits, the number of its values of 15.
+#[inline(always)]
+fn long_bits(row: &[u16; 16]) -> u32
+    ensures { result ≡ slice_index row.now 12 + 65536 * slice_index row.now 13 }
+{
+    u32::from(row[12]) + 65536 * u32::from(row[13])
+}
+
+// Adds the bits in table 24 and the number of 15s of the pairs from one to before another.
+#[inline(always)]
+fn add_long(pairs: &[u8; 288], from: usize, to: usize, bits: u32) -> u32
+    requires order { from ≤ to }
+    requires within { to ≤ 288 }
+    requires before { bits ≡ short_sum (lines_in pairs.now) 12 from + 65536 * short_sum (lines_in pairs.now) 13 from }
+    ensures { result ≡ short_sum (lines_in pairs.now) 12 to + 65536 * short_sum (lines_in pairs.now) 13 to }
+{
+    let mut sum = bits;
+    for n in from..to {
+        sum += long_bits(row(usize::from(pairs[n])));
+    }
+    sum
+}
+
+// Writes the bits in table 24 and the number of 15s up to an edge.
+#[inline(always)]
+fn put_long(sums: &mut Sums, edge: usize, bits: u32)
+    requires edge { edge < 25 }
+    requires lanes { length sums.old ≡ 16 }
+    requires edges { (t : ℕ) → t < 16 → length (slice_index_or sums.old t []) ≡ 32 }
+    ensures first { cell_at sums.new 12 edge ≡ bits % 65536 }
+    ensures second { cell_at sums.new 13 edge ≡ bits / 65536 }
+    ensures others { (t b : ℕ) → t < 16 → b ≢ edge → cell_at sums.new t b ≡ cell_at sums.old t b }
+    ensures zeros { (t b : ℕ) → t < 16 → t ≢ 12 → t ≢ 13 → cell_at sums.new t b ≡ cell_at sums.old t b }
+    ensures lanes { length sums.new ≡ 16 }
+    ensures edges { (t : ℕ) → t < 16 → length (slice_index_or sums.new t []) ≡ 32 }
+{
+    sums[12][edge] = (bits % 65536) as u16;
+    sums[13][edge] = (bits / 65536) as u16;
+}
+
+// Writes the sums of the lanes with linbits up to each band.
+fn sum_long(pairs: &[u8; 288], end: usize, rate: usize, sums: &mut Sums)
+    requires rate { rate < 3 }
+    requires within { end ≤ 576 }
+    requires none { sums.old ≡ replicate 16 (replicate 32 0) }
+    ensures { AreLongSums (lines_in pairs.now) rate end sums.new }
+{
+    let mut sum = 0u32;
+    let mut from = 0usize;
+    for band in 0..25usize {
+        put_long(sums, band, sum);
+        let to = usize::from(edge(rate, (band + 1).min(22))).min(end);
+        sum = add_long(pairs, from / 2, to / 2, sum);
+        from = to;
+    }
+}
+
+// Writes the sums of all lanes up to each band.
+fn sum_all(pairs: &[u8; 288], end: usize, rate: usize, sums: &mut Sums)
+    requires rate { rate < 3 }
+    requires within { end ≤ 576 }
+    requires none { sums.old ≡ replicate 16 (replicate 32 0) }
+    ensures { AreAllSums (lines_in pairs.now) rate end sums.new }
+{
+    let mut sum = no_bits();
+    let mut from = 0usize;
+    for band in 0..22usize {
+        put(sums, band, &sum);
+        let to = usize::from(edge(rate, band + 1)).min(end);
+        add_pairs(pairs, from / 2, to / 2, &mut sum);
+        from = to;
+    }
+    put(sums, 22, &sum);
+    put(sums, 23, &sum);
+    put(sums, 24, &sum);
+}
+
+// Writes the sums up to each band, of the lanes with linbits alone where no other can be chosen.
+#[inline(always)]
+fn sum_lanes(pairs: &[u8; 288], parts: &Classes, end: usize, rate: usize, sums: &mut Sums)
+    requires rate { rate < 3 }
+    requires within { end ≤ 576 }
+    requires none { sums.old ≡ replicate 16 (replicate 32 0) }
+    ensures { AreLaneSums (lines_in pairs.now) rate end parts.now sums.new }
+{
+    if need_linbits(parts, end, rate) {
+        sum_long(pairs, end, rate, sums);
+    } else {
+        sum_all(pairs, end, rate, sums);
+    }
+}
+
 // Writes the sums up to each band and the class of each band, all cut at the line where the pairs
 // end, from the classes of the whole bands.
 pub(crate) fn sum_bands(
@@ -163,24 +281,13 @@ pub(crate) fn sum_bands(
     requires within { end ≤ 576 }
     requires ends { end ≡ end_of_pairs (lines_in pairs.now) }
     requires known { (q : List ℤ) × ArePairsOf (edges_at rate) q pairs.now classes.now }
-    requires lanes { length sums.old ≡ 16 }
-    requires edges { (t : ℕ) → t < 16 → length (slice_index_or sums.old t []) ≡ 32 }
+    requires none { sums.old ≡ replicate 16 (replicate 32 0) }
     ensures made { (q : List ℤ) → ArePairsOf (edges_at rate) q pairs.now classes.now → AreSumsOf q rate end (rows_of sums.new) parts.new }
     ensures ready { AreSums (rows_of sums.new) parts.new }
     ensures kept { AreKept sums.new }
     ensures long { length parts.new ≡ 32 }
     ensures few { (b : ℕ) → slice_index parts.new b < 14 }
 {
-    let mut sum = no_bits();
-    let mut from = 0usize;
-    for band in 0..22usize {
-        put(sums, band, &sum);
-        let to = usize::from(edge(rate, band + 1)).min(end);
-        add_pairs(pairs, from / 2, to / 2, &mut sum);
-        from = to;
-    }
-    put(sums, 22, &sum);
-    put(sums, 23, &sum);
-    put(sums, 24, &sum);
     *parts = part_classes(pairs, classes, rate, end);
+    sum_lanes(pairs, parts, end, rate, sums);
 }

@@ -1,72 +1,22 @@
-use Rattle.std.proofs.Common.{◌≡◌, ℕ, List, ◌+◌, ◌/◌, ◌%◌, ◌∙◌, get_or, length, inl, inr, arith, ap, sym, min}
-use Rattle.std.proofs.lemmas.Bool.{cases_lt}
-use Rattle.std.proofs.lemmas.Simd.{get_or-replicate}
-use Rattle.l3_tables.specs.Bands.{edge_at}
+use Rattle.std.proofs.Common.{◌≡◌, ℕ, List, ◌%◌, arith, ◌+◌}
 use Rattle.std.specs.Prelude.{ℤ}
 use Rattle.l3_region.specs.Pairs.{IsBandClass, lines_in, unpacked}
 use Rattle.l3_region.specs.Split.{end_of_pairs}
-use Rattle.l3_region.specs.Lanes.{cell_at, rows_of, short_sum}
+use Rattle.l3_region.specs.Lanes.{lane_sum}
 use Rattle.l3_region.proofs.CutLines.{sums_same}
 use Rattle.l3_region.proofs.Unpacked.{unpacked_same}
-use Rattle.l3_tables.proofs.Edges.{edge_first, edge_order}
-use Rattle.l3_region.proofs.Kept.{AreCells, cells_last, kept_from, rows_from, short_sum-none}
-use Rattle.l3_region.proofs.Ranges.{are_sums}
+use Rattle.l3_region.proofs.LaneSums.{before, grow_lanes, kept_lanes, ready_lanes}
 use Rattle.l3_region.proofs.sums.sum_bands.Goals as goal
 
 end_even : (end : ℕ) (lines : List ℤ) → end ≡ end_of_pairs lines → end % 2 ≡ 0
 end_even end lines is = omega arith
 
-pub loop-band-init : goal.loop-band-init
-loop-band-init c =
-    let none = c.no_bits-sum.ensures in
-    record {
-      start = omega (arith, edge_first c.args.rate c.requires.rate);
-      long = ap length none;
-      sum = λ t lt. ap (λ s. get_or s t 0) none ∙ (get_or-replicate 16 t 0 0 lt ∙ sym (short_sum-none (lines_in c.args.pairs.now) t));
-      lanes = c.requires.lanes;
-      edges = c.requires.edges;
-      cells = λ t b lt less. absurd (omega arith);
-    }
-
-pub loop-band-preserved : goal.loop-band-preserved
-loop-band-preserved c =
-    let inv = c.loop-band.invariant in
-    let rate = c.args.rate in
-    let end = c.args.end in
-    let lines = lines_in c.args.pairs.now in
-    let band : ℕ = c.loop-band.band in
-    record {
-      start = omega (arith, c.min-to.ensures, c.from.ensures, c.edge.ensures.value);
-      long = c.add_pairs.ensures.long;
-      sum = c.add_pairs.ensures.sums;
-      lanes = c.put.ensures.lanes;
-      edges = c.put.ensures.edges;
-      cells = λ t b lt less. elim (cases_lt b band) [
-        | inl before ↦ c.put.ensures.others t b lt (omega arith) ∙ inv.cells t b lt before
-        | inr here ↦
-            (let same : b ≡ band = omega arith in
-            ap (cell_at c.put.new.sums t) same
-            ∙ (c.put.ensures.here t lt ∙ (inv.sum t lt ∙ (ap (λ n. short_sum lines t (n / 2)) inv.start ∙ ap (λ i. short_sum lines t (min (edge_at rate i) end / 2)) (sym same)))))
-      ];
-    }
-
--- from one edge to the next
-pub add_pairs-requires-clause-order : goal.add_pairs-requires-clause-order
-add_pairs-requires-clause-order c =
-    omega (arith, edge_order c.args.rate c.loop-band.band (c.loop-band.band + 1) c.requires.rate (omega arith) (omega arith), c.loop-band.invariant.start, c.edge.ensures.value, c.from.ensures, c.min-to.ensures)
-
 pub returns-clause-kept : goal.returns-clause-kept
-returns-clause-kept c =
-    let rate = c.args.rate in
-    let end = c.args.end in
-    let lines = lines_in c.args.pairs.now in
-    let inv = c.loop-band.invariant in
-    let last : c.loop-band.band ≡ 22 = omega arith in
-    let start : c.loop-band.from ≡ min (edge_at rate 22) end = inv.start ∙ ap (λ b. min (edge_at rate b) end) last in
-    let cells : AreCells lines rate end c.put-4.new.sums =
-    cells_last lines rate end c.loop-band.sums c.put-2.new.sums c.put-3.new.sums c.put-4.new.sums c.loop-band.sum (λ t b lt less. inv.cells t b lt (omega arith)) (λ t lt. inv.sum t (omega arith) ∙ ap (λ n. short_sum lines t (n / 2)) start)
-    c.put-2.ensures.here c.put-2.ensures.others c.put-3.ensures.here c.put-3.ensures.others c.put-4.ensures.here c.put-4.ensures.others in
-    kept_from lines rate end c.put-4.new.sums c.requires.rate c.requires.within c.put-4.ensures.lanes c.put-4.ensures.edges cells
+returns-clause-kept c = kept_lanes (lines_in c.args.pairs.now) c.args.rate c.args.end c.part_classes.result c.sum_lanes.new.sums c.requires.rate c.requires.within c.sum_lanes.ensures
+
+pub returns-clause-ready : goal.returns-clause-ready
+returns-clause-ready c =
+    ready_lanes (lines_in c.args.pairs.now) c.args.rate c.args.end c.part_classes.result c.sum_lanes.new.sums c.requires.rate c.requires.within (λ b lt. c.part_classes.ensures.few b) c.sum_lanes.ensures
 
 pub returns-clause-made : goal.returns-clause-made
 unfolding IsBandClass
@@ -75,24 +25,21 @@ returns-clause-made c = λ q is.
     let end = c.args.end in
     let pairs = c.args.pairs.now in
     let lines = lines_in pairs in
-    let inv = c.loop-band.invariant in
-    let last : c.loop-band.band ≡ 22 = omega arith in
-    let start : c.loop-band.from ≡ min (edge_at rate 22) end = inv.start ∙ ap (λ b. min (edge_at rate b) end) last in
-    let cells : AreCells lines rate end c.put-4.new.sums =
-    cells_last lines rate end c.loop-band.sums c.put-2.new.sums c.put-3.new.sums c.put-4.new.sums c.loop-band.sum (λ t b lt less. inv.cells t b lt (omega arith)) (λ t lt. inv.sum t (omega arith) ∙ ap (λ n. short_sum lines t (n / 2)) start)
-    c.put-2.ensures.here c.put-2.ensures.others c.put-3.ensures.here c.put-3.ensures.others c.put-4.ensures.here c.put-4.ensures.others in
+    let same : (k n : ℕ) → lane_sum lines k n ≡ lane_sum q k n = λ k n. sums_same q (unpacked pairs) k n (unpacked_same q pairs c.args.classes.now c.told-pairs is) in
     record {
       rate_small = c.requires.rate;
       even = end_even end lines c.requires.ends;
       within = c.requires.within;
       long = is.long;
       codable = is.codable;
-      sums = λ b k lt lk. rows_from lines rate end c.put-4.new.sums cells b k lt lk ∙ sums_same q (unpacked pairs) k (min (edge_at rate b) end / 2) (unpacked_same q pairs c.args.classes.now c.told-pairs is);
+      ready = returns-clause-ready c;
+      sums = λ i n k le lk held.
+          omega (
+            arith,
+            grow_lanes lines rate end c.part_classes.result c.sum_lanes.new.sums c.requires.rate c.sum_lanes.ensures i n k le lk held,
+            same k (before rate end i),
+            same k (before rate end (i + n)),
+          );
       classed = λ b lt. c.part_classes.ensures.value b lt q is;
       few = λ b lt. c.part_classes.ensures.few b;
     }
-
-pub returns-clause-ready : goal.returns-clause-ready
-returns-clause-ready c =
-    let known = c.requires.known in
-    are_sums known.0 c.args.rate c.args.end (rows_of c.put-4.new.sums) c.part_classes.result (returns-clause-made c known.0 known.1)
