@@ -1,8 +1,9 @@
 -- The tables of lanes, by tests that compute.
-use Rattle.std.proofs.Common.{◌≡◌, ℕ, zero, suc, ◌+◌, ◌-◌, ◌<◌, ◌≤◌, true, [], length, get_or, cond, eqb, ltb, leb, refl, sym, ap, ◌∙◌, arith, inl, inr, ◌⊎◌}
+use Rattle.std.proofs.Common.{◌≡◌, ℕ, zero, suc, ◌+◌, ◌*◌, ◌-◌, ◌<◌, ◌≤◌, true, [], length, get_or, cond, eqb, ltb, leb, refl, sym, ap, ◌∙◌, arith, inl, inr, ◌⊎◌}
 use Rattle.std.proofs.lemmas.Bool.{agree_below, agree_below_at, eqb-true, ltb-true, leb-true, cases_lt, le-leb, lt-leb}
 use Rattle.l3_huff.specs.Tables.{IsTable, is_table, greatest_of, linbits_at, width_at}
 use Rattle.l3_region.specs.declared.rows.TheConstants.{ROWS}
+use Rattle.l3_region.specs.declared.long.TheConstants.{LONG}
 use Rattle.std.specs.Prelude.{max}
 use Rattle.l3_region.specs.Lanes.{lane_table, lane_class, bound_at, extra_of, lane_of, mask_at, row_at, short_at}
 
@@ -33,6 +34,14 @@ row_rises place k a from to =
 
 pub row_long : (place : ℕ) → place < 256 → length (get_or ROWS place []) ≡ 16
 row_long place a = eqb-true _ _ (agree_below_at (λ p. eqb (length (get_or ROWS p [])) 16) (λ _. true) 256 place refl a)
+
+-- what is kept of a pair in lanes 12 and 13, in one number
+pub long_value : (place : ℕ) → place < 256 → get_or LONG place 0 ≡ short_at place 12 + 65536 * short_at place 13
+unfolding short_at
+long_value place a = eqb-true _ _ (agree_below_at (λ p. eqb (get_or LONG p 0) (short_at p 12 + 65536 * short_at p 13)) (λ _. true) 256 place refl a)
+
+pub long_small : (place : ℕ) → place < 256 → get_or LONG place 0 ≤ 131086
+long_small place a = leb-true _ _ (agree_below_at (λ p. leb (get_or LONG p 0) 131086) (λ _. true) 256 place refl a)
 
 -- what is kept of a pair is at most 14, and of values of 15 there are at most two
 pub short_small : (place t : ℕ) → place < 256 → t < 16 → short_at place t ≤ 14

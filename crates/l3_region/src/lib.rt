@@ -12,6 +12,7 @@ mod costs;
 mod cut;
 mod lanes;
 mod laws;
+mod long;
 mod pairs;
 mod quads;
 mod regions;

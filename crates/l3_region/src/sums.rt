@@ -10,6 +10,7 @@ ghost use Rattle.l3_region.specs.Lanes.{AreAllSums, AreKept, AreLaneSums, AreLon
 ghost use Rattle.l3_region.specs.Pairs.{ArePairsOf, IsBandClass, lines_in};
 
 use crate::lanes::no_classes;
+use crate::long::long_bits;
 use crate::rows::row;
 use l3_tables::edge;
 
@@ -175,14 +176,6 @@ fn need_linbits(parts: &Classes, end: usize, rate: usize) -> bool
     true
 }
 
-// The bits of a pair in table 24 and, above 16 digits, the number of its values of 15.
-#[inline(always)]
-fn long_bits(row: &[u16; 16]) -> u32
-    ensures { result ≡ slice_index row.now 12 + 65536 * slice_index row.now 13 }
-{
-    u32::from(row[12]) + 65536 * u32::from(row[13])
-}
-
 // Adds the bits in table 24 and the number of 15s of the pairs from one to before another.
 #[inline(always)]
 fn add_long(pairs: &[u8; 288], from: usize, to: usize, bits: u32) -> u32
@@ -193,7 +186,7 @@ fn add_long(pairs: &[u8; 288], from: usize, to: usize, bits: u32) -> u32
 {
     let mut sum = bits;
     for n in from..to {
-        sum += long_bits(row(usize::from(pairs[n])));
+        sum += long_bits(usize::from(pairs[n]));
     }
     sum
 }

@@ -14,9 +14,7 @@ overflow_add-sum c =
       c.loop-n.invariant,
       short_sum-le lines 12 n (omega arith),
       short_sum-le lines 13 n (omega arith),
-      c.long_bits-sum.ensures,
-      c.row.ensures.small 12 (omega arith),
-      c.row.ensures.small 13 (omega arith),
+      c.long_bits-sum.ensures.small,
     )
 
 pub loop-n-preserved : goal.loop-n-preserved
@@ -27,9 +25,7 @@ loop-n-preserved c =
     omega (
       arith,
       c.loop-n.invariant,
-      c.long_bits-sum.ensures,
-      c.row.ensures.values 12,
-      c.row.ensures.values 13,
+      c.long_bits-sum.ensures.value,
       ap (λ p. short_at p 12) place,
       ap (λ p. short_at p 13) place,
       short_sum-more lines 12 n,
