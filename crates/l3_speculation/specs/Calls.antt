@@ -1,5 +1,5 @@
 -- What calls of the track and of the board are in runs.
-use Rattle.std.specs.Prelude.{◌≡◌, ℕ, ◌+◌, ◌-◌, ◌<◌, List, [], ◌∷◌, ◌++◌, ℤ, length}
+use Rattle.std.specs.Prelude.{◌≡◌, ◌+◌, ◌-◌, ◌<◌, List, [], ◌∷◌, ◌++◌, ℤ, length}
 use Rattle.l3_base.specs.declared.settings.Settings.{Settings}
 use Rattle.l3_base.specs.Lengths.{granules_for}
 use Rattle.l3_core.specs.declared.event.Event.{Event}
@@ -13,8 +13,8 @@ use Rattle.l3_commit.specs.Standing.{AreSameSpectra}
 use Rattle.l3_commit.specs.Tracks.{TrackView, next_of}
 use Rattle.l3_speculation.specs.Run.{Acts, BoardCall, FrameEnd, GranuleCommit, RunState, with_board}
 
--- what a call did with a track and a piece: in each run over samples of whose next granule the piece
--- has the spectra, the granule is committed
+-- what a call did with a track and a piece: in each run over samples of whose next granule the
+-- piece has the spectra, the granule is committed
 abbrev pub IsGranule : (old new : TrackView) → PieceView → GranuleDone → Type 0
 IsGranule old new x done = (left right : List ℤ) (s : RunState) → s.track ≡ old → next_of old < granules_for (length left) →
     AreSameSpectra old.settings.channels (spectrum_in x) (spectra_of left right (next_of old)) →

@@ -1,5 +1,5 @@
 -- Laws of runs, each carried by a function of src/laws.rt.
-use Rattle.std.specs.Prelude.{◌≡◌, ℕ, ◌+◌, ◌<◌, ◌≤◌, List, [], ◌∷◌, ◌++◌, All, ℤ, length}
+use Rattle.std.specs.Prelude.{◌≡◌, ◌+◌, ◌<◌, ◌≤◌, List, [], ◌∷◌, ◌++◌, All, ℤ, length}
 use Rattle.l3_base.specs.declared.settings.Settings.{Settings}
 use Rattle.l3_base.specs.Lengths.{granules_for}
 use Rattle.l3_core.specs.declared.event.Event.{Event}
@@ -16,7 +16,8 @@ use Rattle.l3_commit.specs.Tried.{tried_at}
 use Rattle.l3_speculation.specs.Reused.{granule_reused, tried_so_far}
 use Rattle.l3_speculation.specs.Run.{Action, Acts, BoardCall, GranuleCommit, HoldsSound, IsReached, IsRight, RunState, Runs}
 
--- the frames that ended are the chosen ones before the track's frame, and a front of all chosen ones
+-- the frames that ended are the chosen ones before the track's frame, and so a front of all chosen
+-- ones
 pub record IsFront (st : Settings) (left right : List ℤ) (t : RunState) : Type 0 where
   pub frames_are : t.frames ≡ frames_before st (spectra_of left right) t.track.frame
   pub rest : List ChosenFrame
@@ -67,9 +68,9 @@ RunsAreAlike = (st : Settings) (left right : List ℤ) (s t : RunState) → IsRe
 -- such piece can be committed, once the frame before has ended
 pub record CanCommit (st : Settings) (left right : List ℤ) (s : RunState) (x : PieceView) : Type 0 where
   pub ends : List Action
-  pub then : RunState
-  pub runs : Runs st left right s (ends ++ (GranuleCommit x ∷ [])) then
-  pub next : next_of then.track ≡ next_of s.track + 1
+  pub later : RunState
+  pub runs : Runs st left right s (ends ++ (GranuleCommit x ∷ [])) later
+  pub next : next_of later.track ≡ next_of s.track + 1
 
 pub record GoesOn (st : Settings) (left right : List ℤ) (s : RunState) : Type 0 where
   pub piece : PieceView

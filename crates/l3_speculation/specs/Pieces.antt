@@ -23,14 +23,15 @@ BringsSound = (st : Settings) (left right : List ℤ) (number : ℕ) (x : PieceV
     (channel gain : ℕ) (c : Counted) → channel < channels_of st.channels → kept_at (counts_in x channel) gain ≡ Some c →
     count_of (band_edges st.sample_rate) no_amp (spectra_of left right number channel) gain ≡ Some c
 
--- a piece with no counts that is presumed has just the counts of the gains from the first to the one
--- that is picked under its guess
+-- a piece with no counts that is presumed has just the counts of the gains from the first to that
+-- which is picked under its guess
 abbrev pub BringsExact : Type 0
 BringsExact = (before after : PieceView) (channel : ℕ) → before.memos ≡ no_memos → IsPresumed before after → IsChannel before channel →
     HasCountsTo (edges_in before) no_amp (spectrum_in before channel) (first_gain_of (edges_in before) no_amp (spectrum_in before channel))
     (presumed_gain before channel) no_counts (counts_in after channel)
 
--- where a piece supposes the reserve that is left before its granule, presuming it spares all counts
+-- where a piece supposes the reserve that there is before its granule, presuming it spares all
+-- counts
 pub record IsSpared (st : Settings) (n reserve : ℕ) (x : PieceView) : Type 0 where
   pub lacking : granule_lacking st n reserve x ≡ 0
   pub reused : granule_reused st n reserve x ≡ granule_tried st n reserve (spectrum_in x)

@@ -33,9 +33,9 @@ number_in x = x.number
 abbrev pub HoldsSound : BoardState PieceView → Type 0
 HoldsSound board = (c : ℕ) (content : Content PieceView) → slice_get board.cells c ≡ Some content → All IsSound (items_of content)
 
--- a piece is right for a granule of samples, whatever it supposes and whatever was counted of it: it
--- has the granule's number and the spectra of the channels that are there, the settings are the same
--- but for the rate, and it is sound
+-- a piece is right for a granule of samples, whatever it supposes and whatever was counted of it:
+-- it has the granule's number and the spectra of the channels that are there, the settings are the
+-- same but for the rate, and each of its counts is true
 pub record IsRight (st : Settings) (left right : List ℤ) (number : ℕ) (x : PieceView) : Type 0 where
   pub number_is : x.number ≡ number
   pub settings_are : IsLike st x.settings

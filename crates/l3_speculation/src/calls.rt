@@ -13,9 +13,9 @@ use l3_core::{Answer, Core, Event};
 use l3_stream::ChosenFrame;
 use std::sync::ledger::Ledger;
 
-/// What a track does with the piece of the next granule is a step of each run in which it stands and
-/// the piece is right: a granule is committed. `made` is how many counts were made, and the rest of
-/// `tried` how many were reused.
+/// What a track does with the piece of the next granule is a step of each run in which it stands
+/// and the piece is right: a granule is committed. `made` is how many counts were made, and the
+/// rest of `tried` how many were reused.
 pub fn granule_is_a_step<L: Ledger + Send>(
     track: &mut Track,
     piece: &mut Piece,

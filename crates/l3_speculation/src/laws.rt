@@ -13,8 +13,8 @@ pub fn speculative_runs_commit_the_choice()
     ensures handed { BoardHandsOutSound }
 {}
 
-/// The counts that a piece brings along are the spectrum's own, and just those under its guess; with
-/// a guess of the true reserve they are all that the choice tries.
+/// The counts that a piece brings along are the spectrum's own, and just those under its guess;
+/// with a guess of the true reserve they are all that the choice tries.
 pub fn pieces_bring_exact_counts()
     ensures sound { BringsSound }
     ensures exact { BringsExact }
