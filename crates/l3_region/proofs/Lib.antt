@@ -11,6 +11,7 @@ pub mod Unpacked
 pub mod Ranges
 pub mod Kept
 pub mod LaneSums
+pub mod LongRegions
 pub mod Regional
 pub mod Keys
 pub mod CutClasses

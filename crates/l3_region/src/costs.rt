@@ -97,7 +97,21 @@ fn take_lane(low: &Sixteen, high: &Sixteen, most: &Sixteen, t: usize, cost: &Six
     less
 }
 
+// The least of sixteen classes.
+#[inline(always)]
+fn least_class(most: &Sixteen) -> u16
+    ensures { (j : ℕ) → j < 16 → result ≤ slice_index most.now j }
+{
+    let mut least = most[0];
+    for j in 1..16 {
+        least = least.min(most[j]);
+    }
+    least
+}
+
 // What sixteen regions cost in the cheapest lane, for their greatest classes.
+//
+// Where all of them need linbits, no other lane holds any of them.
 #[inline(always)]
 pub(crate) fn costs(
     sums: &Sums,
@@ -123,6 +137,9 @@ pub(crate) fn costs(
         &window(sums, 13, to, ends_move),
         most,
     );
+    if least_class(most) >= 6 {
+        return cost;
+    }
     for t in 0..12 {
         let low = window(sums, t, from, begins_move);
         let high = window(sums, t, to, ends_move);
@@ -165,6 +182,9 @@ pub(crate) fn costs_to_end(sums: &Sums, band: usize, most: &Sixteen) -> Sixteen
         &still(&sums[13], 22),
         most,
     );
+    if least_class(most) >= 6 {
+        return long;
+    }
     let first = with_lane(sums, band, most, 0, &long);
     let second = with_lane(sums, band, most, 1, &first);
     let third = with_lane(sums, band, most, 2, &second);

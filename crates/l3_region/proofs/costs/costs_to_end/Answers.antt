@@ -1,6 +1,7 @@
 use Rattle.std.proofs.Common.{◌≡◌, ℕ, ◌+◌, ◌-◌, ◌*◌, ◌≤◌, min, List, get_or, arith, ap, ◌∙◌}
 use Rattle.l3_region.specs.Lanes.{cell_at, cost_between, extra_of, kept_cost, least_below, long_cost}
 use Rattle.l3_region.proofs.LaneLemmas.{least_below-none, least_below-more}
+use Rattle.l3_region.proofs.LongRegions.{cost-long}
 use Rattle.l3_region.proofs.costs.costs_to_end.Goals as goal
 
 -- one lane more
@@ -60,3 +61,15 @@ returns-clause-small c = λ j lt.
     let own = long_is sums from to class (get_or c.with_linbits-long.result j 0) (get_or c.moving.result j 0) (get_or c.still.result j 0) (get_or c.moving-2.result j 0) (get_or c.still-2.result j 0) (made.values j lt)
     (c.moving.ensures.values j lt) (c.still.ensures.values j lt) (c.moving-2.ensures.values j lt) (c.still-2.ensures.values j lt) in
     within (long_cost sums from to class) (least_below (kept_cost sums from to class) 12) (get_or c.with_linbits-long.result j 0) (get_or c.with_lane.result j 0) own (made.small j lt) (returns-clause-values c j lt)
+
+pub returns-then-least_class-ge6-clause-values : goal.returns-then-least_class-ge6-clause-values
+returns-then-least_class-ge6-clause-values c = λ j lt.
+    let sums = c.args.sums.now in
+    let from = c.args.band + j in
+    let to : ℕ = 22 in
+    let class = get_or c.args.most.now j 0 in
+    let made = c.with_linbits-long.ensures in
+    let cost = get_or c.with_linbits-long.result j 0 in
+    let own = long_is sums from to class cost (get_or c.moving.result j 0) (get_or c.still.result j 0) (get_or c.moving-2.result j 0) (get_or c.still-2.result j 0) (made.values j lt)
+    (c.moving.ensures.values j lt) (c.still.ensures.values j lt) (c.moving-2.ensures.values j lt) (c.still-2.ensures.values j lt) in
+    cost-long sums from to class cost (omega (arith, c.least_class.ensures j lt)) (c.requires.most j lt) (made.small j lt) own
