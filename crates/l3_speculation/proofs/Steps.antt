@@ -1,6 +1,7 @@
 -- What calls of the track and of the board did are steps of runs.
-use Rattle.std.proofs.Common.{◌≡◌, sym, subst, refl, ℕ, ◌+◌, ◌-◌, ◌<◌, length, arith}
+use Rattle.std.proofs.Common.{◌≡◌, sym, subst, refl, ℕ, ◌+◌, ◌-◌, ◌<◌, length, arith, [], ◌∷◌}
 use Rattle.std.specs.Prelude.{All}
+use Rattle.std.proofs.lemmas.List.Elements.{All-cons, All-nil}
 use Rattle.l3_base.specs.Lengths.{granules_for}
 use Rattle.l3_core.specs.declared.event.Event.{Event}
 use Rattle.l3_core.specs.declared.event.Answer.{Answer}
@@ -42,6 +43,15 @@ pub frame-step : (old new : TrackView) (frame : ChosenFrame) → length old.gran
 frame-step old new frame two lent is st left right s e =
     (subst (λ (t : TrackView). length t.granules ≡ 2) (sym e) two, rw (is, lent, e) refl)
 
-pub event-step : (old new : BoardState PieceView) (e : Event PieceView) (a : Answer PieceView) → All IsSound (given e) → Step number_in old e a new → IsEvent old new e a
-event-step old new e a own step st left right s is =
-    (own, subst (λ (b : BoardState PieceView). Step number_in b e a new) (sym is) step, refl)
+-- one item that is sound
+pub one-sound : (x : PieceView) → IsSound x → All IsSound (x ∷ [])
+one-sound x is = All-cons IsSound x [] is (All-nil IsSound)
+
+pub none-sound : All IsSound []
+none-sound = All-nil IsSound
+
+pub event-step : (old new : BoardState PieceView) (e called : Event PieceView) (a : Answer PieceView) → e ≡ called → All IsSound (given called) → Step number_in old called a new → IsEvent old new e a
+event-step old new e called a named own step st left right s is =
+    let whole : All IsSound (given called) × Step number_in s.board called a new = (own, subst (λ (b : BoardState PieceView). Step number_in b called a new) (sym is) step) in
+    let both = subst (λ (f : Event PieceView). All IsSound (given f) × Step number_in s.board f a new) (sym named) whole in
+    (both.0, both.1, refl)
