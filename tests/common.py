@@ -39,6 +39,15 @@ def count_of_words(usage, default):
     return int(words[0])
 
 
+def with_files(parser):
+    """The words of the script by this parser, where each file that they name is there."""
+    options = parser.parse_args()
+    lacking = [it for it in options.files if not os.path.isfile(it)]
+    if lacking:
+        parser.error(f"there is no file {lacking[0]}")
+    return options
+
+
 class Room:
     """A folder for files of this run, removed at its end."""
 
