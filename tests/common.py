@@ -1,7 +1,8 @@
-"""What the scripts of this folder share: the program that they run, sounds to encode, and the count of cases.
+"""What the scripts of this folder share: the program that they run, sounds to encode, and the count
+of cases.
 
-Python 3.8 or later, which the Rattle kit needs as well. Sounds are made from whole numbers and a seed, so they are the
-same on each machine.
+Python 3.8 or later, which the Rattle kit needs as well. Sounds are made from whole numbers and a
+seed, so they are the same on each machine.
 """
 import array
 import operator
@@ -37,6 +38,15 @@ def count_of_words(usage, default):
         print(usage, file=sys.stderr)
         sys.exit(2)
     return int(words[0])
+
+
+def with_files(parser):
+    """The words of the script by this parser, where each file that they name is there."""
+    options = parser.parse_args()
+    lacking = [it for it in options.files if not os.path.isfile(it)]
+    if lacking:
+        parser.error(f"there is no file {lacking[0]}")
+    return options
 
 
 class Room:
@@ -128,8 +138,8 @@ def voice(step, count, loudness, softening):
 
 
 def song(count, seed, hz=44100):
-    """Music for a machine, in stereo: eight times a second two notes of 24 begin, left or right or between, and at every
-    second of these a burst of noise."""
+    """Music for a machine, in stereo: eight times a second two notes of 24 begin, left or right or
+    between, and at every second of these a burst of noise."""
     choose, beat = random.Random(seed), hz // 8
     pitches = [110 * 2 ** (octave / 12) for octave in range(0, 48, 2)]
     notes = [[voice(int(it * 2**32 / hz), hz, loudness, 14) for loudness in (1500, 4000, 9000)] for it in pitches]
