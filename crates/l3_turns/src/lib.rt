@@ -1,8 +1,8 @@
-//! Samples as they come -> their stream: granule after granule, alone or over a board of granules that
-//! workers may analyse ahead.
+//! Samples as they come -> their stream: granule after granule, alone, or over a board on which
+//! workers may analyse granules ahead.
 //!
-//! Before: `l3_commit`, which chooses frames; `l3_frames`, which writes them; `l3_workers`, whose gate is
-//! told of each turn. After: the encoder.
+//! Before: `l3_commit`, which chooses frames; `l3_frames`, which writes them; `l3_workers`, whose
+//! gate is told of each turn. After: `l3_encoder`, which runs workers beside it.
 #![tactic(auto)]
 
 mod encoding;

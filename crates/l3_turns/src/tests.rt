@@ -1,14 +1,27 @@
-ghost use Rattle.std.specs.Prelude.{◌≡◌, ◌<◌};
+ghost use Rattle.std.specs.Prelude.{◌≡◌, ◌<◌, IfOk, vec_len};
 
-use crate::{TurnFault, encode_turns};
+use crate::{TurnFault, encode_on_board, encode_turns};
+use l3_analysis::PieceBox;
 use l3_base::{Channels, Rate, SampleRate, Settings, Steps};
+use l3_board::LockBoard;
 use l3_commit::{Committer, Report};
+use l3_guess::Flat;
 use l3_io::{MemSink, MemSource, read_full};
+use l3_offers::fresh_desks;
 use l3_wav::{Samples, WavHead};
+use l3_workers::OpenGate;
 use std::alloc::{AllocError, Global};
 use std::marker::Brand;
+use std::sync::Wait;
 use std::sync::ledger::{Blank, Ledger};
 use std::test::Fail;
+
+// 128 kbit/s, 44100 Hz, one channel.
+const SETTINGS: Settings = Settings {
+    rate: Rate::K128,
+    sample_rate: SampleRate::Hz44100,
+    channels: Channels::Mono,
+};
 
 // What the encoder answers for data of one channel of so many bytes, at 44100 Hz and 128 kbit/s, a
 // sink of so much room with what it took, and the source. This read fails.
@@ -29,24 +42,76 @@ fn encoded<L: Ledger + Send>(
         rate: SampleRate::Hz44100,
         data_bytes,
     };
-    let settings = Settings {
-        rate: Rate::K128,
-        sample_rate: SampleRate::Hz44100,
+    let mut source = MemSource::new(alloc, bytes, 2000, &[fails])?;
+    let mut sink = MemSink::new(alloc, room, 300, &[])?;
+    let mut steps: Steps<L> = Steps::start(blank);
+    let mut committer = Committer::open(alloc, SETTINGS, 0, Samples::new(&head))?;
+    let answer = encode_turns(SETTINGS, &mut committer, &mut source, &mut sink, &mut steps);
+    Ok((answer, sink, source))
+}
+
+// Blanks for two cells.
+fn two_blanks(alloc: Global) -> Result<Vec<PieceBox>, AllocError>
+    ensures { IfOk result (λ blanks. vec_len blanks ≡ 2) }
+{
+    let mut blanks = Vec::new(alloc);
+    blanks.push(PieceBox::new(alloc, SETTINGS)?)?;
+    blanks.push(PieceBox::new(alloc, SETTINGS)?)?;
+    Ok(blanks)
+}
+
+// The same over a board of two cells, of which nobody claims anything.
+fn encoded_on_board<R: Wait, L: Ledger + Send>(
+    rt: &R,
+    blank: Blank,
+    alloc: Global,
+    bytes: &[u8],
+    data_bytes: u32,
+    fails: u64,
+    room: usize,
+) -> Result<(Result<Report, TurnFault>, MemSink), AllocError>
+    requires name { blank.name ≡ L.name }
+    requires parts { blank.parts ≡ L.parts }
+    requires some { 0 < blank.parts }
+{
+    let blanks = two_blanks(alloc)?;
+    let (board, mut desk, _) = LockBoard::new(rt, alloc, 1, blanks)?;
+    fresh_desks();
+    let head = WavHead {
         channels: Channels::Mono,
+        rate: SampleRate::Hz44100,
+        data_bytes,
     };
     let mut source = MemSource::new(alloc, bytes, 2000, &[fails])?;
     let mut sink = MemSink::new(alloc, room, 300, &[])?;
     let mut steps: Steps<L> = Steps::start(blank);
-    let mut committer = Committer::open(alloc, settings, 0, Samples::new(&head))?;
-    let answer = encode_turns(settings, &mut committer, &mut source, &mut sink, &mut steps);
-    Ok((answer, sink, source))
+    let mut committer = Committer::open(alloc, SETTINGS, 2, Samples::new(&head))?;
+    let mut guesser = Flat::new(0);
+    let answer = encode_on_board(
+        SETTINGS,
+        &mut committer,
+        &mut guesser,
+        &board,
+        &mut desk,
+        &OpenGate,
+        &mut source,
+        &mut sink,
+        &mut steps,
+    );
+    Ok((answer, sink))
+}
+
+// The stream of one sample of zero.
+fn one_zero_stream() -> [u8; 835] {
+    let mut stream = [0; 835];
+    stream[..4].copy_from_slice(&[0xFF, 0xFB, 0x90, 0xC0]);
+    stream[417..422].copy_from_slice(&[0xFF, 0xFB, 0x92, 0xC0, 0xC6]);
+    stream
 }
 
 #[test]
 fn one_zero_sample_and_faults(rt: HostRuntime) -> Result<(), Fail> {
-    let mut stream = [0; 835];
-    stream[..4].copy_from_slice(&[0xFF, 0xFB, 0x90, 0xC0]);
-    stream[417..422].copy_from_slice(&[0xFF, 0xFB, 0x92, 0xC0, 0xC6]);
+    let stream = one_zero_stream();
     let whole = Ok(Report {
         frames: 2,
         tried: 4,
@@ -104,5 +169,52 @@ fn failed_read_leaves_a_front(rt: HostRuntime) -> Result<(), Fail> {
     assert_eq!(rt; answer, Err(TurnFault::Read));
     assert_eq!(rt; sink.bytes().len(), 417);
     assert!(rt; sink.bytes().starts_with(&[0xFF, 0xFB, 0x90, 0xC0, 0]));
+    Ok(())
+}
+
+#[test]
+fn board_that_nobody_claims_of(rt: HostRuntime) -> Result<(), Fail> {
+    let stream = one_zero_stream();
+    let whole = Ok(Report {
+        frames: 2,
+        tried: 4,
+        made: 4,
+    });
+
+    // The read that fails, room in the sink, the answer, and how many bytes were written.
+    for (fails, room, wanted, written) in [
+        (1000, 10000, whole, 835),
+        (0, 10000, Err(TurnFault::Read), 0),
+        (1000, 100, Err(TurnFault::Write), 100),
+    ] {
+        let (answer, sink) = encoded_on_board::<_, Brand>(
+            &rt,
+            Blank::new(1),
+            rt.alloc(),
+            b"\0\0rest",
+            2,
+            fails,
+            room,
+        )?;
+        assert_eq!(rt; answer, wanted);
+        assert_eq!(rt; Some(sink.bytes()), stream.get(..written));
+    }
+    Ok(())
+}
+
+// A read ahead of the granules that are committed fails: of three frames the first is given.
+#[test]
+fn failed_read_on_a_board_leaves_a_front(rt: HostRuntime) -> Result<(), Fail> {
+    let (answer, sink) = encoded_on_board::<_, Brand>(
+        &rt,
+        Blank::new(1),
+        rt.alloc(),
+        &[0; 16000],
+        16000,
+        8,
+        10000,
+    )?;
+    assert_eq!(rt; answer, Err(TurnFault::Read));
+    assert_eq!(rt; sink.bytes().len(), 417);
     Ok(())
 }
