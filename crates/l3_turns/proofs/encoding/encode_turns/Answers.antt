@@ -2,10 +2,10 @@ use Rattle.std.proofs.Common.{arith, ◌≡◌, ◌∙◌, ap, sym, subst, inl, 
 use Rattle.std.specs.Prelude.{Result, Ok, Err, ℤ, List}
 use Rattle.l3_base.specs.Lengths.{granules_for}
 use Rattle.l3_windows.specs.Holding.{WindowsView, Holds}
+use Rattle.l3_windows.specs.Reading.{AreGone}
 use Rattle.l3_commit.specs.Tracks.{TrackView, next_of}
-use Rattle.l3_turns.specs.Answers.{frames_told}
 use Rattle.l3_turns.proofs.Pushed.{fresh}
-use Rattle.l3_turns.proofs.Loop.{AllDone, ran-first, ran-read, ran-gathered, ran-turned, owes-fresh, read-failed, read-failed-frames, write-failed, write-failed-frames, count-pushed, still-good, stands-behind, finished-frames, finished, counted, rest-left, steps-within, broke-within, IfSome-samples, reported, told-on, told-push}
+use Rattle.l3_turns.proofs.Loop.{AllDone, ran-first, ran-read, ran-gathered, ran-turned, owes-fresh, read-failed, read-failed-frames, write-failed, write-failed-frames, count-pushed, still-good, stands-behind, finished-frames, finished, counted, rest-left, steps-within, broke-within, IfSome-samples, reported, frames-on, frames-more, gone-all, none-gone, twice-gone}
 use Rattle.l3_turns.proofs.encoding.encode_turns.Goals as goal
 
 pub granules-init : goal.granules-init
@@ -20,7 +20,8 @@ granules-init g c =
       alone = c.requires.alone;
       ahead = c.requires.ahead;
       sound = c.requires.sound;
-      frames = sym (ap (λ (t : TrackView). frames_told t.frame) start.0);
+      frames = sym (ap (λ (t : TrackView). t.frame) start.0);
+      gone = none-gone c.args.committer.now.windows.samples.remaining (g.S.Source.left c.args.source.now);
       made = refl;
       ticks = omega arith;
       small = omega arith;
@@ -200,7 +201,8 @@ granules-preserved-then-get-eq1 g c =
       alone = rw (done.same.1 ∙ (same.2 ∙ read.offers)) inv.alone;
       ahead = omega (arith, inv.ahead, read.ahead, ap (λ (w : WindowsView). w.ahead) windows);
       sound = subst (λ (w : WindowsView). w.samples.failed ≡ false) (sym windows) read.sound;
-      frames = rw c.saturating_add-frames.ensures (told-push c.granules.frames held.track.frame (length held.track.granules) last.track.frame (length last.track.granules) c.get.result inv.frames inv.few done.few (c.get.ensures.value ∙ (number ∙ was)) (omega (arith, done.next, c.get.ensures.value)) c.if-get-eq1.true);
+      frames = frames-more c.granules.frames held.track.frame (length held.track.granules) last.track.frame (length last.track.granules) c.get.result inv.frames inv.few done.few (c.get.ensures.value ∙ (number ∙ was)) (omega (arith, done.next, c.get.ensures.value)) c.if-get-eq1.true;
+      gone = subst (λ (w : WindowsView). AreGone first.windows.samples.remaining w.samples.remaining (left c.args.source.now) (left c.read_ahead.new.source)) (sym windows) (twice-gone first.windows.samples.remaining held.windows.samples.remaining mid.windows.samples.remaining (left c.args.source.now) (left c.granules.source) (left c.read_ahead.new.source) inv.gone read.gone);
       made = omega (arith, inv.made, alike, c.from-tried.ensures, c.from-made.ensures);
       ticks = omega (arith, inv.ticks, done.made.1, c.from-made.ensures);
       small = omega (arith, inv.small, done.limit, done.next, number, was, c.from-tried.ensures);
@@ -246,7 +248,8 @@ granules-preserved g c =
       alone = rw (done.same.1 ∙ (same.2 ∙ read.offers)) inv.alone;
       ahead = omega (arith, inv.ahead, read.ahead, ap (λ (w : WindowsView). w.ahead) windows);
       sound = subst (λ (w : WindowsView). w.samples.failed ≡ false) (sym windows) read.sound;
-      frames = told-on c.granules.frames held.track.frame (length held.track.granules) last.track.frame (length last.track.granules) c.get.result inv.frames inv.few done.few (c.get.ensures.value ∙ (number ∙ was)) (omega (arith, done.next, c.get.ensures.value)) c.if-get-eq1.false;
+      frames = frames-on c.granules.frames held.track.frame (length held.track.granules) last.track.frame (length last.track.granules) c.get.result inv.frames inv.few done.few (c.get.ensures.value ∙ (number ∙ was)) (omega (arith, done.next, c.get.ensures.value)) c.if-get-eq1.false;
+      gone = subst (λ (w : WindowsView). AreGone first.windows.samples.remaining w.samples.remaining (left c.args.source.now) (left c.read_ahead.new.source)) (sym windows) (twice-gone first.windows.samples.remaining held.windows.samples.remaining mid.windows.samples.remaining (left c.args.source.now) (left c.granules.source) (left c.read_ahead.new.source) inv.gone read.gone);
       made = omega (arith, inv.made, alike, c.from-tried.ensures, c.from-made.ensures);
       ticks = omega (arith, inv.ticks, done.made.1, c.from-made.ensures);
       small = omega (arith, inv.small, done.limit, done.next, number, was, c.from-tried.ensures);
@@ -310,7 +313,7 @@ returns-in-Ok-finish-clause-frames g c =
     let ran = ran-read first held mid (fresh st) c.granules.writer begun took (left c.args.source.now) (left c.granules.source) (left c.read_ahead.new.source) fs c.granules.tried read.track inv.ran.1 read.stands read.content in
     let r : Result ℕ ℕ = Ok 0 in
     let p = finished-frames first mid st c.granules.writer begun took (taken c.finish.new.sink) (left c.args.source.now) (left c.read_ahead.new.source) fs c.granules.tried r start owes ran c.in-Ok-finish.ensures.bytes in
-    (fs, p.0, p.1, inv.frames ∙ (ap (λ (t : TrackView). frames_told t.frame) (sym read.track) ∙ ap frames_told (sym (count-pushed first mid st c.granules.writer begun took fs start ran.pushes))))
+    (fs, p.0, p.1, inv.frames ∙ (ap (λ (t : TrackView). t.frame) (sym read.track) ∙ sym (count-pushed first mid st c.granules.writer begun took fs start ran.pushes)))
 
 pub returns-in-Ok-finish-clause-report : goal.returns-in-Ok-finish-clause-report
 returns-in-Ok-finish-clause-report g c =
@@ -329,7 +332,7 @@ returns-in-Ok-finish-clause-report g c =
     let ran = ran-read first held mid (fresh st) c.granules.writer begun took (left c.args.source.now) (left c.granules.source) (left c.read_ahead.new.source) fs c.granules.tried read.track inv.ran.1 read.stands read.content in
     let few : length mid.track.granules < 2 = omega (arith, inv.few, ap (λ (t : TrackView). length t.granules) read.track) in
     let all : AllDone mid = c.in_default-next.ensures.none in
-    reported first st (left c.args.source.now) _ (counted first mid st c.granules.writer begun took (left c.args.source.now) (left c.read_ahead.new.source) fs c.granules.tried c.granules.frames few all (inv.frames ∙ ap (λ (t : TrackView). frames_told t.frame) (sym read.track)) ran)
+    reported first st (left c.args.source.now) _ (counted first mid st c.granules.writer begun took (left c.args.source.now) (left c.read_ahead.new.source) fs c.granules.tried c.granules.frames few all (inv.frames ∙ ap (λ (t : TrackView). t.frame) (sym read.track)) ran)
 
 pub returns-in-Ok-finish-clause-rise : goal.returns-in-Ok-finish-clause-rise
 returns-in-Ok-finish-clause-rise g c =
@@ -418,3 +421,37 @@ returns-in-Err-clause-rise g c =
     let begun = taken c.args.sink.now in
     let took = taken c.granules.sink in
     steps-within first held st (fresh st) c.granules.writer begun took (left c.args.source.now) (left c.granules.source) fs c.granules.tried c.granules.made c.args.steps.now c.granules.steps inv.few inv.made inv.ticks inv.ran.1
+
+pub returns-in_default-clause-gone : goal.returns-in_default-clause-gone
+returns-in_default-clause-gone g c =
+    let left = g.S.Source.left in
+    let first = c.args.committer.now in
+    let held = c.granules.committer in
+    twice-gone first.windows.samples.remaining held.windows.samples.remaining 0 (left c.args.source.now) (left c.granules.source) (left c.read_ahead.new.source) c.granules.invariant.gone c.in_default.ensures.some
+
+pub returns-in_default-turn-clause-gone : goal.returns-in_default-turn-clause-gone
+returns-in_default-turn-clause-gone g c =
+    let left = g.S.Source.left in
+    let first = c.args.committer.now in
+    let held = c.granules.committer in
+    let mid = c.read_ahead.new.self in
+    gone-all first.windows.samples.remaining mid.windows.samples.remaining (left c.args.source.now) (left c.read_ahead.new.source)
+    (twice-gone first.windows.samples.remaining held.windows.samples.remaining mid.windows.samples.remaining (left c.args.source.now) (left c.granules.source) (left c.read_ahead.new.source) c.granules.invariant.gone c.in-Ok.ensures.gone)
+
+pub returns-in-Ok-finish-clause-gone : goal.returns-in-Ok-finish-clause-gone
+returns-in-Ok-finish-clause-gone g c =
+    let left = g.S.Source.left in
+    let first = c.args.committer.now in
+    let held = c.granules.committer in
+    let mid = c.read_ahead.new.self in
+    gone-all first.windows.samples.remaining mid.windows.samples.remaining (left c.args.source.now) (left c.read_ahead.new.source)
+    (twice-gone first.windows.samples.remaining held.windows.samples.remaining mid.windows.samples.remaining (left c.args.source.now) (left c.granules.source) (left c.read_ahead.new.source) c.granules.invariant.gone c.in-Ok.ensures.gone)
+
+pub returns-in-Err-clause-gone : goal.returns-in-Err-clause-gone
+returns-in-Err-clause-gone g c =
+    let left = g.S.Source.left in
+    let first = c.args.committer.now in
+    let held = c.granules.committer in
+    let mid = c.read_ahead.new.self in
+    gone-all first.windows.samples.remaining mid.windows.samples.remaining (left c.args.source.now) (left c.read_ahead.new.source)
+    (twice-gone first.windows.samples.remaining held.windows.samples.remaining mid.windows.samples.remaining (left c.args.source.now) (left c.granules.source) (left c.read_ahead.new.source) c.granules.invariant.gone c.in-Ok.ensures.gone)

@@ -1,7 +1,7 @@
 use Rattle.std.proofs.Common.{◌≡◌, ◌+◌, ◌-◌, ◌*◌, ◌<◌, ◌≤◌, ◌⊎◌, false, length, List}
 use Rattle.l3_stream.specs.declared.unit.ChosenFrame.{ChosenFrame}
+use Rattle.l3_windows.specs.Reading.{AreGone}
 use Rattle.l3_commit.specs.Tracks.{next_of}
-use Rattle.l3_turns.specs.Answers.{frames_told}
 use Rattle.l3_turns.proofs.Pushed.{fresh}
 use Rattle.l3_turns.proofs.Loop.{Ran}
 use Rattle.l3_turns.proofs.encoding.encode_turns.Given as goal
@@ -15,7 +15,8 @@ invariant-granules g l = record {
   alone : length l.committer.offers.placed ≡ 0;
   ahead : 0 < l.committer.windows.ahead;
   sound : l.committer.windows.samples.failed ≡ false;
-  frames : l.frames ≡ frames_told l.committer.track.frame;
+  frames : l.frames ≡ l.committer.track.frame;
+  gone : AreGone l.fn.committer.windows.samples.remaining l.committer.windows.samples.remaining (g.S.Source.left l.fn.source) (g.S.Source.left l.source);
   made : l.made ≡ l.tried;
   ticks : l.steps ≡ l.fn.steps + l.made;
   small : l.tried ≤ 512 * next_of l.committer.track;
