@@ -295,7 +295,7 @@ counted c d st v old new (Some bytes) (Some now) fs tried frames few all is ran 
 
 -- ---- what is left of the source
 
-frames-many : (n : ℕ) → 0 < n → n ≤ 576 * granules_for n
+pub frames-many : (n : ℕ) → 0 < n → n ≤ 576 * granules_for n
 frames-many n some =
     let e : nat_eq n 0 ≡ false = grind (arith, nat_tests) in
     rw e (omega arith)
@@ -327,7 +327,7 @@ rest-left c d st w v old new (Some bytes) (Some now) fs tried ahead some all the
 -- ---- no more is counted than all frames try
 
 pub steps-within : (c d : CommitterView) (st : Settings) (w v : Writing) (old new : List ℕ → Type 0) (left_old left_new : Option (List ℕ)) (fs : List ChosenFrame) (tried made before now : ℕ)
-    → length d.track.granules < 2 → made ≡ tried → now ≡ before + made → Ran c d w v old new left_old left_new fs tried
+    → length d.track.granules < 2 → made ≤ tried → now ≡ before + made → Ran c d w v old new left_old left_new fs tried
     → IfSome left_old (λ bytes. (left right : List ℤ) → StandsFor c bytes st left right → now ≤ before + gains_tried st left right)
 steps-within c d st w v old new None left_new fs tried made before now few same ticks ran = tt
 steps-within c d st w v old new (Some bytes) None fs tried made before now few same ticks ran = absurd ran.told
@@ -339,7 +339,7 @@ steps-within c d st w v old new (Some bytes) (Some last) fs tried made before no
 
 -- nor after a turn that broke off
 pub broke-within : (c d : CommitterView) (st : Settings) (w v : Writing) (old new : List ℕ → Type 0) (left_old left_new : Option (List ℕ)) (fs : List ChosenFrame) (tried made before now last : ℕ)
-    → length d.track.granules < 2 → made ≡ tried → now ≡ before + made → Ran c d w v old new left_old left_new fs tried
+    → length d.track.granules < 2 → made ≤ tried → now ≡ before + made → Ran c d w v old new left_old left_new fs tried
     → ((bytes : List ℕ) (left right : List ℤ) → Holds d.windows bytes left right → next_of d.track < granules_for (length left))
     → ((bytes : List ℕ) (s : Settings) (left right : List ℤ) → StandsFor d bytes s left right → last ≤ now + tried_at s (spectra_of left right) d.track.frame (length d.track.granules))
     → IfSome left_old (λ bytes. (left right : List ℤ) → StandsFor c bytes st left right → last ≤ before + gains_tried st left right)
