@@ -5,12 +5,15 @@
 #![tactic(auto)]
 
 mod alone;
+mod answer;
 mod file_laws;
+mod opening;
 mod with;
 
 pub use alone::encode_alone;
 pub use file_laws::files_are_encoded;
 pub use l3_commit::{EncodeFault, Report};
+pub use l3_turns::TurnFault;
 pub use l3_workers::{Gate, Lanes, OpenGate};
 pub use with::encode_with;
 
