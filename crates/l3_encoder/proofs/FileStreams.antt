@@ -1,7 +1,8 @@
 -- What a file is encoded to, against the bytes of the file.
-use Rattle.std.proofs.Common.{◌≡◌, refl, ap, subst, ℕ, zero, suc, ◌+◌, ◌≤◌, ◌^◌, arith}
+use Rattle.std.proofs.Common.{◌≡◌, refl, ap, subst, ℕ, zero, suc, ◌+◌, ◌≤◌, ◌^◌, arith, inl, inr}
 use Rattle.std.proofs.Common.{List, [], ◌∷◌, ℤ, pos, negsuc, length}
-use Rattle.std.specs.Prelude.{All, FitsSigned, unsigned_abs, Some, None, Result, Ok, Err}
+use Rattle.std.specs.Prelude.{All, FitsSigned, unsigned_abs, Some, None, Result, Ok, Err, nat_eq}
+use Rattle.std.proofs.lemmas.Bool.{cases_Bool}
 use Rattle.std.specs.Int.{w16}
 use Rattle.std.specs.List.{slice_get}
 use Rattle.std.proofs.lemmas.Option.{same_Some}
@@ -22,7 +23,6 @@ use Rattle.l3_commit.specs.Laws.{AreSamples}
 use Rattle.l3_commit.proofs.Encodings.{chosen-fit, chosen-alone}
 use Rattle.l3_encoder.specs.Encoded.{settings_with, left_in, right_in, encoding_by}
 use Rattle.l3_encoder.specs.FileLaws.{read_limit, BeginsAreWithin, IsStreamOf, FilesAreEncoded}
-use Rattle.l3_encoder.proofs.Counting.{frames-small}
 
 -- ---- where frames begin
 
@@ -43,6 +43,13 @@ begins-within : (st : Settings) (fs : List ChosenFrame) → FramesFit st 0 0 fs 
 begins-within st fs fit n f is = begins-at st 0 0 fs fit n n f (omega arith) is
 
 -- ---- the stream of samples, and of a file
+
+frames-small : (n : ℕ) → n ≤ 2147483647 → frames_for n ≤ 1864137
+frames-small n few =
+    elim (cases_Bool (nat_eq n 0)) [
+      | inl e ↦ rw e (omega arith)
+      | inr e ↦ rw e (omega arith)
+    ]
 
 sample-small : (x : ℤ) → FitsSigned w16 x → unsigned_abs x ≤ 2 ^ 15
 sample-small (pos n) fits = omega (arith, fits)

@@ -1,5 +1,2 @@
-pub mod InputLemmas
-pub mod Rest
-pub mod Going
-pub mod Counting
+pub mod Refused
 pub mod FileStreams

@@ -2,10 +2,10 @@ ghost use Rattle.std.specs.Prelude.{◌≡◌, ◌+◌, ◌≤◌, IfOk, IfSome}
 ghost use Rattle.l3_encoder.specs.Changes.{source_change, sink_change};
 ghost use Rattle.l3_encoder.specs.Encoded.{CountsReads, CountsWrites, ExplainsReport, GivesSomeFrames, IsBeforeFirst, LeavesInput, gains_in};
 
+use crate::opening::open_file;
 use l3_base::{Rate, Steps};
 use l3_commit::{EncodeFault, Report};
 use l3_io::{Sink, Source};
-use l3_wav::{WavFault, open};
 use std::alloc::Global;
 use std::sync::ledger::Ledger;
 
@@ -44,9 +44,8 @@ pub fn encode_alone<S: Source, K: Sink, L: Ledger + Send>(
     ensures later_steps { steps.old ≤ steps.new }
     ensures unstepped { IsBeforeFirst result → steps.new ≡ steps.old }
 {
-    match open(source) {
+    match open_file(source) {
         Ok(_) => Err(EncodeFault::Memory),
-        Err(WavFault::Read) => Err(EncodeFault::Read),
-        Err(fault) => Err(EncodeFault::Wav(fault)),
+        Err(fault) => Err(fault),
     }
 }

@@ -6,6 +6,7 @@
 
 mod alone;
 mod file_laws;
+mod opening;
 mod with;
 
 pub use alone::encode_alone;

@@ -2,11 +2,11 @@ ghost use Rattle.std.specs.Prelude.{◌≡◌, ◌+◌, ◌≤◌, IfOk, IfSome}
 ghost use Rattle.l3_encoder.specs.Changes.{source_change, sink_change};
 ghost use Rattle.l3_encoder.specs.Encoded.{CountsReads, CountsWrites, ExplainsReport, GivesSomeFrames, IsBeforeFirst, LeavesInput, gains_in};
 
+use crate::opening::open_file;
 use l3_base::{Rate, Steps};
 use l3_commit::{EncodeFault, Report};
 use l3_guess::Guesser;
 use l3_io::{Sink, Source};
-use l3_wav::{WavFault, open};
 use l3_workers::{Gate, Lanes};
 use std::alloc::Global;
 use std::sync::Wait;
@@ -57,9 +57,8 @@ pub fn encode_with<
     ensures later_steps { steps.old ≤ steps.new }
     ensures unstepped { IsBeforeFirst result → steps.new ≡ steps.old }
 {
-    match open(source) {
+    match open_file(source) {
         Ok(_) => Err(EncodeFault::Memory),
-        Err(WavFault::Read) => Err(EncodeFault::Read),
-        Err(fault) => Err(EncodeFault::Wav(fault)),
+        Err(fault) => Err(fault),
     }
 }

@@ -1,7 +1,7 @@
 //! The reserves that granules began with -> guesses of those that later granules will begin with.
 //!
-//! Before: `l3_base`, the granules' numbers. After: nothing yet; the encoder on several threads
-//! will tell and ask. A guess never changes a byte.
+//! Before: `l3_base`, the granules' numbers. After: `l3_commit`, which asks for a guess for each
+//! granule that it offers, and tells each reserve. A guess never changes a byte.
 #![tactic(auto)]
 
 mod guesser;

@@ -12,6 +12,7 @@ reading-preserved g c =
       content = goes-twice c.args.self.now c.reading.self c.read_some.new.self (left c.args.source.now) (left c.reading.source) (left c.read_some.new.source) c.reading.invariant.content read.content;
       same = search rules;
       few = omega (arith, read.few);
+      grows = omega (arith, c.reading.invariant.grows, read.grows);
       short = λ was ended. read.short ended;
       idle = search rules;
       gone = twice-gone c.args.self.now.samples.remaining c.reading.self.samples.remaining c.read_some.new.self.samples.remaining (left c.args.source.now) (left c.reading.source) (left c.read_some.new.source) c.reading.invariant.gone read.gone;

@@ -8,6 +8,7 @@ invariant-reading g l = record {
   content : GoesOn l.fn.self l.self (g.S.Source.left l.fn.source) (g.S.Source.left l.source);
   same : (l.self.channels ≡ l.fn.self.channels) × (l.self.ahead ≡ l.fn.self.ahead) × (l.self.base ≡ l.fn.self.base);
   few : l.self.read ≤ max l.fn.self.read l.end;
+  grows : l.fn.self.read ≤ l.self.read;
   short : l.fn.self.ended ≡ false → l.self.ended ≡ true → l.self.read < l.end;
   idle : (l.fn.self.ended ≡ true) ⊎ (l.end ≤ l.fn.self.read) → (l.self ≡ l.fn.self) × (l.source ≡ l.fn.source);
   gone : AreGone l.fn.self.samples.remaining l.self.samples.remaining (g.S.Source.left l.fn.source) (g.S.Source.left l.source);
