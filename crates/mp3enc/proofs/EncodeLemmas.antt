@@ -1,5 +1,5 @@
 -- How an encoding ends, by its answer.
-use Rattle.std.proofs.Common.{◌≡◌, ℕ, ◌+◌, ◌≤◌, Bool, true, false, List, refl, inl, arith, subst, sym}
+use Rattle.std.proofs.Common.{◌≡◌, ℕ, ◌+◌, ◌<◌, ◌≤◌, Bool, true, false, List, refl, inl, arith, subst, sym}
 use Rattle.std.specs.Prelude.{Option, Some, None, IfOk, IfSome, IsSomeAnd, Result, Ok, Err}
 use Rattle.std.proofs.lemmas.Option.{IfSome_then}
 use Rattle.l3_io.specs.Taken.{Takes}
@@ -23,6 +23,16 @@ pub record Counts (words : EncodeWords) (report : Report) (Made : ℕ → Type 0
   pub no_more : report.made ≤ report.tried
   pub made : Made report.made
   pub alone : words.options.workers ≡ 0 → report.made ≡ report.tried
+
+pub counts_alone : (words : EncodeWords) (answer : Result Report EncodeFault) (old now : ℕ) → IfOk answer (λ report. (report.made ≡ report.tried) × (now ≡ old + report.made)) →
+    IfOk answer (λ report. Counts words report (λ made. now ≡ old + made))
+counts_alone words (Ok report) old now ticks = record { no_more = omega (arith, ticks.0); made = ticks.1; alone = λ none. ticks.0 }
+counts_alone words (Err why) old now ticks = tt
+
+pub counts_ahead : (words : EncodeWords) (answer : Result Report EncodeFault) (old now : ℕ) → 0 < words.options.workers →
+    IfOk answer (λ report. (report.made ≤ report.tried) × (now ≡ old + report.made)) → IfOk answer (λ report. Counts words report (λ made. now ≡ old + made))
+counts_ahead words (Ok report) old now some ticks = record { no_more = ticks.0; made = ticks.1; alone = λ none. absurd (omega (arith, some, none)) }
+counts_ahead words (Err why) old now some ticks = tt
 
 module _ (words : EncodeWords) (source : SourceChange) (sink : SinkChange) (Made : ℕ → Type 0) where
   encoded : (report : Report) (stats : Bool) → words.stats ≡ stats → ExplainsReport words.options.rate (Ok report) source sink → GivesSomeFrames words.options.rate (Ok report) sink →

@@ -27,7 +27,7 @@ use Rattle.mp3enc.specs.declared.words.Command.TheVariants.{Encode, Check, Demo}
 use Rattle.mp3enc.specs.Check.{frames_limit, reading_in, deviation_in, line_by, line_in}
 use Rattle.mp3enc.specs.Status.{status_of, refusal_of}
 use Rattle.mp3enc.specs.Demo.{digest_line_in, file_for}
-use Rattle.mp3enc.specs.Program.{AreTold, Does, DoesOrLacks, Encodes, Ends, FramesAt, HasStatistics, IsRefused, KeepsSource, Leaves, LeavesUnread, MayCome, NeedsMemory}
+use Rattle.mp3enc.specs.Program.{AreTold, Does, DoesOrLacks, Encodes, Ends, FramesAt, HasRun, HasStatistics, IsRefused, KeepsSource, Leaves, LeavesUnread, MayCome, NeedsMemory}
 use Rattle.mp3enc.specs.Program.{WritesFrames, WritesFront, any_number, failed_reads_at, failed_writes_at, input_of, no_source, output_of}
 use Rattle.mp3enc.specs.Promise.{ChecksStream, Promise, SaysTrue, ShowsSignal, WritesLine, WritesStream}
 
@@ -578,6 +578,17 @@ module _ (source : SourceChange) (sink : SinkChange) (Made : ℕ → Type 0) whe
   beside_or_lack words e (inl d) left same unread = inl (beside words e d left same unread)
   beside_or_lack words e (inr m) left same unread = inr (m.0, unread, m.2)
 
+  -- what `check` did it did whatever counts were made
+  pub check_made : (e : Ending) → Ends Check e source sink any_number → Ends Check e source sink Made
+  check_made Done d = record { explains = d.explains; frames = tt; left = d.left; kept = tt; reads = d.reads; writes = d.writes }
+  check_made (Counted report) d = absurd d.explains.0
+  check_made (Refused why) d = absurd d.explains.0
+  check_made (Deviates why) d = record { explains = d.explains; frames = tt; left = d.left; kept = tt; reads = d.reads; writes = d.writes }
+  check_made ReadFault d = record { explains = d.explains; frames = tt; left = d.left; kept = tt; reads = d.reads; writes = d.writes }
+  check_made WriteFault d = record { explains = d.explains; frames = tt; left = d.left; kept = tt; reads = d.reads; writes = d.writes }
+  check_made Memory d = absurd d.explains.0
+  check_made Usage d = absurd d.explains
+
   -- ---- where it is not told how many counts were made
 
   any_statistics : (command : Command) (report : Report) → HasStatistics command report source.left Made → HasStatistics command report source.left any_number
@@ -599,6 +610,9 @@ module _ (source : SourceChange) (sink : SinkChange) (Made : ℕ → Type 0) whe
   does_any (Some command) e (inl d) = inl (ends_any command e d)
   does_any None e (inl d) = inl d
   does_any asked e (inr m) = inr m
+
+  pub run_any : (asked : Option Command) (s : Status) (notes : SinkChange) → HasRun (Done_or_lacks asked) s notes → HasRun (DoesOrLacks asked source sink any_number) s notes
+  run_any asked s notes h = record { ending = h.ending; status = h.status; did = does_any asked h.ending h.did; told = h.told }
 
   -- ---- the promise
 

@@ -1,30 +1,36 @@
 //! The guesser that words ask for.
 
-ghost use Rattle.std.specs.Prelude.{◌≡◌, ◌≤◌, ◌<◌, ◌-◌, ℕ, IfErr, IfOk, Some, map, replicate, slice_get, vec_len};
+ghost use Rattle.std.specs.Prelude.{◌≡◌, ◌≤◌, ◌<◌, ◌+◌, ◌-◌, ◌%◌, ℕ, IfErr, IfOk, Some, map, replicate, slice_get, vec_len};
+ghost use Rattle.l3_guess.specs.Scores.{all_risen, guess_after, guess_of};
 
 use l3_base::GranuleNo;
-use l3_guess::{Chosen, Guesser, Panel, Standings};
+use l3_guess::{Guesser, Panel, Standings};
 use std::alloc::{AllocError, Global};
 
 /// One guesser, or all that there are.
 #[derive(Drop)]
 pub enum Asked {
     /// One of them.
-    One(Chosen),
+    One(Box<dyn Guesser>),
     /// All, of which the one that has done best so far is asked.
     All(Panel),
 }
 
 impl Guesser for Asked {
+    ghost use Rattle.mp3enc.specs.declared.guess.Asked.TheVariants.{All, One};
+
+    // What the chosen one guesses, or the answer of the panel's best.
     ghost guesses = { λ asked number. elim asked [
-      | Asked.One chosen ↦ ⟦<Chosen as Guesser>⟧.guesses chosen number
-      | Asked.All panel ↦ ⟦<Panel as Guesser>⟧.guesses panel number
-    ] };
+        One chosen ↦ (Guesser-box chosen).guesses chosen.value number
+        | All panel ↦ guess_of (map (λ m. m.score) panel.members.items)
+        (map (λ m. (Guesser-box m.guesser).guesses m.guesser.value number) panel.members.items) ] };
 
     ghost guesses_after = { λ asked number reserve n. elim asked [
-      | Asked.One chosen ↦ ⟦<Chosen as Guesser>⟧.guesses_after chosen number reserve n
-      | Asked.All panel ↦ ⟦<Panel as Guesser>⟧.guesses_after panel number reserve n
-    ] };
+        One chosen ↦ (Guesser-box chosen).guesses_after chosen.value number reserve n
+        | All panel ↦ guess_after ((panel.tells + 1) % 256)
+        (all_risen (map (λ m. m.score) panel.members.items)
+        (map (λ m. (Guesser-box m.guesser).guesses m.guesser.value number) panel.members.items) reserve)
+        (map (λ m. (Guesser-box m.guesser).guesses_after m.guesser.value number reserve n) panel.members.items) ] };
 
     fn tell(&mut self, number: GranuleNo, reserve: u32) {
         match self {
@@ -50,9 +56,9 @@ pub fn guesser_asked(
 ) -> Result<Asked, AllocError>
     requires some { 0 < vec_len guessers }
     requires there { number ≤ vec_len guessers }
-    ensures one { 1 ≤ number → IfOk result (λ asked. (chosen : Chosen) × (asked ≡ Asked.One chosen)
-        × (slice_get guessers.items (number - 1) ≡ Some chosen.0)) }
-    ensures all { number ≡ 0 → IfOk result (λ asked. (panel : Panel) × (asked ≡ Asked.All panel)
+    ensures one { 1 ≤ number → IfOk result (λ asked. (chosen : _) × (asked ≡ Asked.One chosen)
+        × (slice_get guessers.items (number - 1) ≡ Some chosen)) }
+    ensures all { number ≡ 0 → IfOk result (λ asked. (panel : _) × (asked ≡ Asked.All panel)
         × (⟦<Panel as Standings>⟧.scores panel ≡ replicate (vec_len guessers) 0)
         × ((n : ℕ) → ⟦<Panel as Standings>⟧.answers panel n ≡ map (λ m. guesses m n) guessers.items)) }
     ensures memory { IfErr result (λ _. number ≡ 0) }
@@ -61,6 +67,6 @@ pub fn guesser_asked(
         Ok(Asked::All(Panel::new(alloc, guessers)?))
     } else {
         let mut guessers = guessers;
-        Ok(Asked::One(Chosen(guessers.swap_remove(usize::from(number) - 1))))
+        Ok(Asked::One(guessers.swap_remove(usize::from(number) - 1)))
     }
 }

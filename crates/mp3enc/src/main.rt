@@ -22,9 +22,7 @@ use l3_io::{StdSink, StdSource};
 use process::{arguments, start};
 pub use program::{run, run_alone};
 pub use status::Status;
-use std::marker::Brand;
 use std::process::ExitCode;
-use std::sync::ledger::Blank;
 
 fn main(rt: HostRuntime) -> ExitCode {
     let alloc = rt.alloc();
@@ -42,7 +40,7 @@ fn main(rt: HostRuntime) -> ExitCode {
     let Ok(guessers) = Vec::from_array(alloc, guessers) else {
         return ExitCode::from(tell(&mut notes, Ending::Memory).number());
     };
-    start::<_, _, _, _, Brand, _>(
+    start(
         &rt,
         alloc,
         arguments(&rt),
@@ -51,7 +49,6 @@ fn main(rt: HostRuntime) -> ExitCode {
         &mut notes,
         guessers,
         &OpenGate,
-        Blank::new(1),
     )
 }
 

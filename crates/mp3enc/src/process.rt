@@ -16,6 +16,7 @@ use l3_io::{Sink, Source};
 use std::alloc::{AllocError, Global};
 use std::env;
 use std::io::ErrorKind;
+use std::marker::Brand;
 use std::process::ExitCode;
 use std::sync::Wait;
 use std::sync::ledger::{Blank, Ledger};
@@ -103,14 +104,7 @@ fn run_arguments<
 ///
 /// Where one of them is no UTF-8 the words are refused. Where there is no memory for them, that is
 /// told.
-pub fn start<
-    S: Source,
-    K: Sink,
-    N: Sink,
-    T: Gate + Sync,
-    L: Ledger + Send,
-    R: Threads + Wait + Sync,
->(
+pub fn start<S: Source, K: Sink, N: Sink, T: Gate + Sync, R: Threads + Wait + Sync>(
     rt: &R,
     alloc: Global,
     arguments: Result<Vec<String>, NoWords>,
@@ -119,11 +113,7 @@ pub fn start<
     notes: &mut N,
     guessers: Vec<Box<dyn Guesser>>,
     gate: &T,
-    blank: Blank,
 ) -> ExitCode
-    requires name { blank.name ≡ L.name }
-    requires parts { blank.parts ≡ L.parts }
-    requires some { 0 < blank.parts }
     ensures ran { IfOk arguments (λ texts. HasExited (DoesOrLacks (command_in (vec_len guessers) (drop 1 (map string_bytes texts.items)))
         (source_change S.left S.faults source.old source.new) (sink_change K.taken K.faults sink.old sink.new)
         any_number) (exit_status result) (sink_change N.taken N.faults notes.old notes.new)) }
@@ -132,7 +122,7 @@ pub fn start<
         (exit_status result) (sink_change N.taken N.faults notes.old notes.new)) }
 {
     let status = match arguments {
-        Ok(texts) => run_arguments::<S, K, N, T, L, R>(
+        Ok(texts) => run_arguments::<S, K, N, T, Brand, R>(
             rt,
             alloc,
             texts.as_slice(),
@@ -141,7 +131,7 @@ pub fn start<
             notes,
             guessers,
             gate,
-            blank,
+            Blank::new(1),
         ),
         Err(NoWords::NotText) => tell(notes, Ending::Usage),
         Err(NoWords::Memory) => tell(notes, Ending::Memory),

@@ -588,7 +588,7 @@ fn arguments_that_are_no_words(rt: HostRuntime) -> Result<(), Fail> {
         let mut source = MemSource::new(alloc, &HEAD, 100, &[])?;
         let mut sink = MemSink::new(alloc, 100, 300, &[])?;
         let mut notes = MemSink::new(alloc, 100, 7, &[])?;
-        let answer = start::<_, _, _, _, Brand, _>(
+        let answer = start(
             &rt,
             alloc,
             Err(why),
@@ -597,7 +597,6 @@ fn arguments_that_are_no_words(rt: HostRuntime) -> Result<(), Fail> {
             &mut notes,
             Vec::new(alloc),
             &OpenGate,
-            Blank::new(1),
         );
         assert_eq!(rt; answer, ExitCode::from(code));
         assert_eq!(rt; sink.bytes().len(), 0);
@@ -616,7 +615,7 @@ fn words_after_the_name(rt: HostRuntime) -> Result<(), Fail> {
     let mut arguments = Vec::new(alloc);
     arguments.push(String::from_str(alloc, "encode")?)?;
     arguments.push(String::from_str(alloc, "check")?)?;
-    let answer = start::<_, _, _, _, Brand, _>(
+    let answer = start(
         &rt,
         alloc,
         Ok(arguments),
@@ -625,7 +624,6 @@ fn words_after_the_name(rt: HostRuntime) -> Result<(), Fail> {
         &mut notes,
         Vec::new(alloc),
         &OpenGate,
-        Blank::new(1),
     );
     assert_eq!(rt; answer, ExitCode::SUCCESS);
     assert_eq!(rt; sink.bytes(), b"frames 2 bits 0\n".as_slice());
