@@ -51,14 +51,12 @@ front-none rate bytes taken = by (encoding_in rate bytes)
   where
     stands : Stands taken taken
     stands list is = is
+
     by : (told : Option (List ℕ)) → TakesFrontOf told taken taken
     by None = stands
     by (Some stream) = TakesPrefix-none taken taken stream stands
 
--- some settings of this rate, whatever the file's are
-some_settings : Rate → Settings
-some_settings rate = record { rate = rate; sample_rate = Hz44100; channels = Mono }
-
+-- no frames of some settings of this rate, whatever the file's are
 pub frames-none : (rate : Rate) (taken : List ℕ → Type 0) →
     (st : Settings) × (fs : List ChosenFrame) × (st.rate ≡ rate) × FramesFit st 0 0 fs × TakesPrefix taken taken (stream_of st fs)
 frames-none rate taken =
@@ -67,13 +65,16 @@ frames-none rate taken =
 
 -- ---- a head that is refused, or that was not read
 
+abbrev IsRefused : WavFault → SourceChange → List ℕ → Type 0
+IsRefused why source bytes = (wav_of bytes ≡ Err why) × (source.left_now ≡ Some (after_head bytes))
+
 pub refused-explains : {K : Type 0} (rate : Rate) (why : EncodeFault) (source : SourceChange) (taken : K → List ℕ → Type 0) (faults : K → ℕ) (sink : K) →
     Refuses why source → ExplainsReport rate (Err why) source (sink_change taken faults sink sink)
 refused-explains rate Memory source taken faults sink refused = absurd refused
 refused-explains rate (Wav why) source taken faults sink refused =
-    (IfSome-then source.left _ _ (λ bytes said. said.0) refused.2, refused.0, refl)
+    (IfSome-then source.left (IsRefused why source) (λ bytes. wav_of bytes ≡ Err why) (λ bytes said. said.0) refused.2, refused.0, refl)
 refused-explains rate Read source taken faults sink refused =
-    IfSome-all source.left _ (λ bytes all. front-none rate bytes (taken sink))
+    IfSome-all source.left (λ bytes. TakesFront rate bytes (sink_change taken faults sink sink)) (λ bytes all. front-none rate bytes (taken sink))
 refused-explains rate Write source taken faults sink refused = absurd refused
 
 pub refused-frames : {K : Type 0} (rate : Rate) (why : EncodeFault) (source : SourceChange) (taken : K → List ℕ → Type 0) (faults : K → ℕ) (sink : K) →
@@ -86,8 +87,9 @@ refused-frames rate Write source taken faults sink refused = absurd refused
 pub refused-leaves : (why : EncodeFault) (source : SourceChange) → Refuses why source → IfSome source.left (λ bytes. LeavesInput (Err why) bytes source.left_now)
 refused-leaves Memory source refused = absurd refused
 refused-leaves (Wav why) source refused =
-    IfSome-then source.left _ _ (λ bytes said. refused-rest bytes why source.left_now said.0 said.1) refused.2
-refused-leaves Read source refused = IfSome-then source.left _ _ (λ bytes lost. head-lost bytes source.left_now lost) refused.1
+    IfSome-then source.left (IsRefused why source) (λ bytes. source.left_now ≡ Some (rest_in bytes)) (λ bytes said. refused-rest bytes why source.left_now said.0 said.1) refused.2
+refused-leaves Read source refused = IfSome-then source.left (λ bytes. HasLost (length bytes - length (after_head bytes)) bytes source.left_now) (λ bytes. HasReadSome bytes source.left_now)
+    (λ bytes lost. head-lost bytes source.left_now lost) refused.1
 refused-leaves Write source refused = absurd refused
 
 pub refused-reads : (why : EncodeFault) (source : SourceChange) → Refuses why source → CountsReads (Err why) source
@@ -106,4 +108,4 @@ refused-writes Write source taken faults sink refused = absurd refused
 -- ---- want of memory behind the head
 
 pub opened-accepted : (head : WavHead) (source : SourceChange) → IsOpened head source → IfSome source.left IsAccepted
-opened-accepted head source is = IfSome-then source.left _ _ (λ bytes accepted. (head, accepted)) is.accepted
+opened-accepted head source is = IfSome-then source.left (λ bytes. wav_of bytes ≡ Ok head) IsAccepted (λ bytes accepted. (head, accepted)) is.accepted

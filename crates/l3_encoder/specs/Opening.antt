@@ -1,5 +1,5 @@
 -- What opening a file gives: its head, or why it is refused.
-use Rattle.std.specs.Prelude.{◌≡◌, ◌≢◌, ◌-◌, ⊥, length, Some, Ok, Err, IfSome}
+use Rattle.std.specs.Prelude.{◌≡◌, ◌≢◌, ◌-◌, length, Some, Ok, Err, IfSome}
 use Rattle.l3_io.specs.Causes.{count_after}
 use Rattle.l3_wav.specs.declared.head.WavHead.{WavHead}
 use Rattle.l3_wav.specs.declared.fault.WavFault.TheVariants as fault
