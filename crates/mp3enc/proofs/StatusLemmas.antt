@@ -669,7 +669,7 @@ module _ (source : SourceChange) (sink : SinkChange) (Made : ℕ → Type 0) whe
     pub promised : (asked : Option Command) (e : Ending) (notes : SinkChange) → Done_or_lacks asked e → AreTold e notes → Promise asked (status_of e) source sink notes Made
     promised asked e notes d told = record {
       usage_only = λ is. usage_none asked e d (usage_is e is);
-      usage = λ none. (usage_or_lack asked e d none, refuses asked e d none);
+      usage = λ none. (usage_or_lack asked e d none, (refuses asked e d none).0, (refuses asked e d none).1);
       head = λ words is. record {
         bad_wav = λ bad. refused_only status.BadWav asked e d bad (inl refl);
         unsupported = λ bad. refused_only status.Unsupported asked e d bad (inr refl);

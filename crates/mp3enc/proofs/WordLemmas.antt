@@ -32,14 +32,16 @@ fit_kept guessers options true is small = record {
 }
 fit_kept guessers options false is small = tt
 
-options_kept : (guessers a b c : ℕ) (rate : Option Rate) → AreKept guessers (option_and_then (λ r. if_fit guessers (record {
-  rate = r;
-  workers = max 0 (min a 16);
-  ahead = max 1 (min b 64);
-  guess = max 0 (min c 255);
-})) rate)
-options_kept guessers a b c None = tt
-options_kept guessers a b c (Some r) = fit_kept guessers _ _ refl (record { workers = omega arith; ahead = (omega arith, omega arith) })
+-- options whose numbers were cut to their ranges
+abbrev cut : Rate → (a b c : ℕ) → EncoderOptions
+cut rate a b c = record { rate = rate; workers = max 0 (min a 16); ahead = max 1 (min b 64); guess = max 0 (min c 255) }
+
+abbrev chosen : (guessers a b c : ℕ) → Option Rate → Option EncoderOptions
+chosen guessers a b c rate = option_and_then (λ r. if_fit guessers (cut r a b c)) rate
+
+chosen_kept : (guessers a b c : ℕ) (rate : Option Rate) → AreKept guessers (chosen guessers a b c rate)
+chosen_kept guessers a b c None = tt
+chosen_kept guessers a b c (Some r) = fit_kept guessers (cut r a b c) (fits guessers (cut r a b c)) refl (record { workers = omega arith; ahead = (omega arith, omega arith) })
 
 -- ---- commands
 
@@ -47,27 +49,35 @@ abbrev IsSmall : ℕ → Option Wanted → Type 0
 IsSmall guessers None = ⊤
 IsSmall guessers (Some command) = HasFrames (known command) × HasOptions guessers (known command)
 
-small_encode : (guessers : ℕ) (taken stats : Bool) (options : Option EncoderOptions) → AreKept guessers options →
+encode_kept : (guessers : ℕ) (taken stats : Bool) (options : Option EncoderOptions) → AreKept guessers options →
     IsSmall guessers (if taken then option_map (λ o. wanted.Encode (record { options = o; stats = stats })) options else None)
-small_encode guessers true stats None kept = tt
-small_encode guessers true stats (Some options) kept = (tt, kept)
-small_encode guessers false stats options kept = tt
+encode_kept guessers true stats None kept = tt
+encode_kept guessers true stats (Some options) kept = (tt, kept)
+encode_kept guessers false stats options kept = tt
 
 small_check : (guessers : ℕ) (taken : Bool) → IsSmall guessers (if taken then Some wanted.Check else None)
 small_check guessers true = (tt, tt)
 small_check guessers false = tt
 
-small_demo : (guessers : ℕ) (taken : Bool) (n seed : ℕ) (options : Option EncoderOptions) → AreKept guessers options →
+demo_kept : (guessers : ℕ) (taken : Bool) (n seed : ℕ) (options : Option EncoderOptions) → AreKept guessers options →
     IsSmall guessers (if taken then option_map (λ o. wanted.Demo (record { options = o; frames = max 1 (min n 100000); seed = seed })) options else None)
-small_demo guessers true n seed None kept = tt
-small_demo guessers true n seed (Some options) kept = ((omega arith, omega arith), kept)
-small_demo guessers false n seed options kept = tt
+demo_kept guessers true n seed None kept = tt
+demo_kept guessers true n seed (Some options) kept = ((omega arith, omega arith), kept)
+demo_kept guessers false n seed options kept = tt
+
+small_encode : (guessers : ℕ) (taken stats : Bool) (a b c : ℕ) (rate : Option Rate) →
+    IsSmall guessers (if taken then option_map (λ o. wanted.Encode (record { options = o; stats = stats })) (chosen guessers a b c rate) else None)
+small_encode guessers taken stats a b c rate = encode_kept guessers taken stats (chosen guessers a b c rate) (chosen_kept guessers a b c rate)
+
+small_demo : (guessers : ℕ) (taken : Bool) (n seed a b c : ℕ) (rate : Option Rate) →
+    IsSmall guessers (if taken then option_map (λ o. wanted.Demo (record { options = o; frames = max 1 (min n 100000); seed = seed })) (chosen guessers a b c rate) else None)
+small_demo guessers taken n seed a b c rate = demo_kept guessers taken n seed (chosen guessers a b c rate) (chosen_kept guessers a b c rate)
 
 small_by : (guessers : ℕ) (words : List (List ℕ)) (first : Option CommandWord) → IsSmall guessers (command_by guessers words first)
 unfolding encode_of check_of demo_of
-small_by guessers words (Some word.Encode) = small_encode guessers _ _ _ (options_kept guessers _ _ _ _)
+small_by guessers words (Some word.Encode) = small_encode guessers _ _ _ _ _ _
 small_by guessers words (Some word.Check) = small_check guessers _
-small_by guessers words (Some word.Demo) = small_demo guessers _ _ _ _ (options_kept guessers _ _ _ _)
+small_by guessers words (Some word.Demo) = small_demo guessers _ _ _ _ _ _ _
 small_by guessers words None = tt
 
 -- the numbers of a command are within their ranges

@@ -85,7 +85,7 @@ pub record TellsNotes (asked : Option Command) (s : Status) (left : Option (List
   pub told : AreTold ending notes
 
 -- the whole promise
-pub record Promise (asked : Option Command) (s : Status) (source : SourceChange) (sink notes : SinkChange) (Made : ℕ → Type 0) : Type 0 where
+pub record Promise (asked : Option Command) (s : Status) (source : SourceChange) (sink told : SinkChange) (Made : ℕ → Type 0) : Type 0 where
   -- words are refused only where they ask for no command, and wherever they do
   pub usage_only : s ≡ status.Usage → asked ≡ None
   pub usage : asked ≡ None → RefusesWords s source sink
@@ -99,7 +99,7 @@ pub record Promise (asked : Option Command) (s : Status) (source : SourceChange)
   pub checked : asked ≡ Some Check → ChecksStream s source sink
   pub demo : (words : DemoWords) → asked ≡ Some (Demo words) → ShowsSignal words s source sink
   -- what is told
-  pub notes : TellsNotes asked s source.left notes Made
+  pub notes : TellsNotes asked s source.left told Made
   -- a fault has its cause, and a cause is told: at a read fault one read failed, and else none; at a
   -- write fault one write, and else none
   pub cause_read : (s ≡ status.ReadFault → source.faults_now ≡ count_after source.faults) × (s ≢ status.ReadFault → source.faults_now ≡ source.faults)
