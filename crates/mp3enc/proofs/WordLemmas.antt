@@ -1,5 +1,5 @@
 -- Within which numbers the words of a command are.
-use Rattle.std.proofs.Common.{◌≡◌, ◌==◌, ◌<◌, ◌≤◌, ℕ, List, Bool, true, false, arith, refl, subst}
+use Rattle.std.proofs.Common.{◌≡◌, ◌==◌, ◌<◌, ◌≤◌, ℕ, List, Bool, true, false, arith, codes, refl, subst}
 use Rattle.std.proofs.lemmas.Bool.Decides.{nat_tests}
 use Rattle.std.specs.Prelude.{Option, Some, None, option_map, option_and_then, max, min, nat_lt, nat_le, ◌&&◌, ◌||◌, ⊤, if◌then◌else◌}
 use Rattle.l3_base.specs.declared.rate.Rate.{Rate}
@@ -8,7 +8,8 @@ use Rattle.l3_words.specs.declared.command.Command.TheVariants as wanted
 use Rattle.l3_words.specs.declared.command.CommandWord.{CommandWord}
 use Rattle.l3_words.specs.declared.command.CommandWord.TheVariants as word
 use Rattle.l3_words.specs.declared.command.EncoderOptions.{EncoderOptions}
-use Rattle.l3_words.specs.Words.{check_of, command_by, command_of, demo_of, encode_of, fits, if_fit, word_of}
+use Rattle.clap.specs.Words.{Row, matches_of}
+use Rattle.l3_words.specs.Words.{check_of, command_by, command_of, demo_app, demo_of, encode_app, encode_of, fits, flag_in, if_fit, is_taken, number_in, options_at, options_in, rate_in, word_of}
 use Rattle.mp3enc.specs.Words.{AreWithin, HasFrames, HasOptions, known}
 
 -- ---- options
@@ -32,16 +33,12 @@ fit_kept guessers options true is small = record {
 }
 fit_kept guessers options false is small = tt
 
--- options whose numbers were cut to their ranges
-abbrev cut : Rate → (a b c : ℕ) → EncoderOptions
-cut rate a b c = record { rate = rate; workers = max 0 (min a 16); ahead = max 1 (min b 64); guess = max 0 (min c 255) }
+rate_kept : (guessers : ℕ) (rows : List Row) (rate : Option Rate) → AreKept guessers (option_and_then (λ r. if_fit guessers (options_at rows r)) rate)
+rate_kept guessers rows None = tt
+rate_kept guessers rows (Some r) = fit_kept guessers (options_at rows r) (fits guessers (options_at rows r)) refl (record { workers = omega arith; ahead = (omega arith, omega arith) })
 
-abbrev chosen : (guessers a b c : ℕ) → Option Rate → Option EncoderOptions
-chosen guessers a b c rate = option_and_then (λ r. if_fit guessers (cut r a b c)) rate
-
-chosen_kept : (guessers a b c : ℕ) (rate : Option Rate) → AreKept guessers (chosen guessers a b c rate)
-chosen_kept guessers a b c None = tt
-chosen_kept guessers a b c (Some r) = fit_kept guessers (cut r a b c) (fits guessers (cut r a b c)) refl (record { workers = omega arith; ahead = (omega arith, omega arith) })
+options_kept : (guessers : ℕ) (rows : List Row) → AreKept guessers (options_in guessers rows)
+options_kept guessers rows = rate_kept guessers rows (rate_in rows)
 
 -- ---- commands
 
@@ -65,19 +62,23 @@ demo_kept guessers true n seed None kept = tt
 demo_kept guessers true n seed (Some options) kept = ((omega arith, omega arith), kept)
 demo_kept guessers false n seed options kept = tt
 
-small_encode : (guessers : ℕ) (taken stats : Bool) (a b c : ℕ) (rate : Option Rate) →
-    IsSmall guessers (if taken then option_map (λ o. wanted.Encode (record { options = o; stats = stats })) (chosen guessers a b c rate) else None)
-small_encode guessers taken stats a b c rate = encode_kept guessers taken stats (chosen guessers a b c rate) (chosen_kept guessers a b c rate)
+small_encode : (guessers : ℕ) (words : List (List ℕ)) → IsSmall guessers (encode_of guessers words)
+unfolding encode_of
+small_encode guessers words =
+    let rows = matches_of encode_app words in
+    encode_kept guessers (is_taken encode_app words) (flag_in rows (codes "stats")) (options_in guessers rows) (options_kept guessers rows)
 
-small_demo : (guessers : ℕ) (taken : Bool) (n seed a b c : ℕ) (rate : Option Rate) →
-    IsSmall guessers (if taken then option_map (λ o. wanted.Demo (record { options = o; frames = max 1 (min n 100000); seed = seed })) (chosen guessers a b c rate) else None)
-small_demo guessers taken n seed a b c rate = demo_kept guessers taken n seed (chosen guessers a b c rate) (chosen_kept guessers a b c rate)
+small_demo : (guessers : ℕ) (words : List (List ℕ)) → IsSmall guessers (demo_of guessers words)
+unfolding demo_of
+small_demo guessers words =
+    let rows = matches_of demo_app words in
+    demo_kept guessers (is_taken demo_app words) _ (number_in rows (codes "SEED") 0 4294967295) (options_in guessers rows) (options_kept guessers rows)
 
 small_by : (guessers : ℕ) (words : List (List ℕ)) (first : Option CommandWord) → IsSmall guessers (command_by guessers words first)
-unfolding encode_of check_of demo_of
-small_by guessers words (Some word.Encode) = small_encode guessers _ _ _ _ _ _
+unfolding check_of
+small_by guessers words (Some word.Encode) = small_encode guessers words
 small_by guessers words (Some word.Check) = small_check guessers _
-small_by guessers words (Some word.Demo) = small_demo guessers _ _ _ _ _ _ _
+small_by guessers words (Some word.Demo) = small_demo guessers words
 small_by guessers words None = tt
 
 -- the numbers of a command are within their ranges
