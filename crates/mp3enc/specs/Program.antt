@@ -1,16 +1,22 @@
 -- What an ending says of the input and the output of a command.
-use Rattle.std.specs.Prelude.{◌≡◌, ◌≢◌, ℕ, ◌+◌, Bool, true, false, List, [], Option, Some, None, Err, IfSome, IsSomeAnd, ◌⊎◌, ⊤}
+use Rattle.std.specs.Prelude.{◌≡◌, ◌≢◌, ℕ, ◌+◌, ◌≤◌, Bool, true, false, List, [], length, Option, Some, None, Result, Ok, Err, IfSome, IsSomeAnd, ◌⊎◌, ⊤}
 use Rattle.l3_io.specs.Causes.{IsSteady, count_after}
 use Rattle.l3_io.specs.Taken.{Takes, TakesPrefix}
 use Rattle.l3_encoder.specs.Changes.{SourceChange, SinkChange}
 use Rattle.l3_base.specs.declared.rate.Rate.{Rate}
+use Rattle.l3_base.specs.declared.settings.Settings.{Settings}
 use Rattle.l3_commit.specs.declared.report.Report.{Report}
-use Rattle.l3_encoder.specs.Encoded.{encoding_in, rest_in, frame_number_in, gains_in, IsAccepted, IsReport, HasReadSome}
+use Rattle.l3_commit.specs.declared.report.EncodeFault.{EncodeFault}
+use Rattle.l3_commit.specs.declared.report.EncodeFault.TheVariants as encode_fault
+use Rattle.l3_encoder.specs.Encoded.{encoding_in, rest_in, IsAccepted, IsReport, HasReadSome, TakesFront, TakesFrontOf}
 use Rattle.l3_reader.specs.InTurn.{HasStopped}
 use Rattle.l3_stream.specs.declared.fault.StreamFault.TheVariants as stream
+use Rattle.l3_stream.specs.declared.unit.ChosenFrame.{ChosenFrame}
+use Rattle.l3_stream.specs.Tape.{FramesFit, stream_of}
 use Rattle.l3_wav.specs.declared.fault.WavFault.{WavFault}
 use Rattle.l3_wav.specs.declared.fault.WavFault.TheVariants as fault
-use Rattle.l3_wav.specs.Wav.{wav_of}
+use Rattle.l3_wav.specs.Wav.{wav_of, after_head}
+use Rattle.l3_words.specs.declared.command.EncodeWords.{EncodeWords}
 use Rattle.mp3enc.specs.declared.status.Status.{Status}
 use Rattle.mp3enc.specs.declared.status.Status.TheVariants as status
 use Rattle.mp3enc.specs.declared.ending.Ending.{Ending}
@@ -21,7 +27,7 @@ use Rattle.mp3enc.specs.declared.words.Command.{Command}
 use Rattle.mp3enc.specs.declared.words.Command.TheVariants.{Encode, Check, Demo}
 use Rattle.mp3enc.specs.Check.{frames_limit, line_in, deviation_in}
 use Rattle.mp3enc.specs.Demo.{digest_line_in, file_for}
-use Rattle.mp3enc.specs.Status.{exit_number, refusal_of, reused_of, statistics_line, status_of, text_of}
+use Rattle.mp3enc.specs.Status.{exit_number, refusal_of, reused_of, status_of, text_of}
 
 -- the head of the file is refused, with this status
 abbrev pub IsRefused : Status → List ℕ → Type 0
@@ -78,12 +84,18 @@ LeavesMidway (Encode words) bytes now = HasReadSome bytes now
 LeavesMidway Check bytes now = HasStopped frames_limit bytes stream.Read now
 LeavesMidway (Demo words) bytes now = ⊥
 
--- what is left where there was no memory: of head and data some is gone; a command that needs none
--- for them has read nothing
+-- what is left where there was no memory: all, or of a file to be encoded what follows its head
 abbrev pub LeavesUnread : Command → List ℕ → Option (List ℕ) → Type 0
-LeavesUnread (Encode words) bytes now = HasReadSome bytes now
+LeavesUnread (Encode words) bytes now = (now ≡ Some (after_head bytes)) ⊎ (now ≡ Some bytes)
 LeavesUnread Check bytes now = now ≡ Some bytes
 LeavesUnread (Demo words) bytes now = now ≡ Some bytes
+
+-- what is left where a write failed: of head and data some is gone; a command that writes last has
+-- read all that it takes
+abbrev pub LeavesUnwritten : Command → List ℕ → Option (List ℕ) → Type 0
+LeavesUnwritten (Encode words) bytes now = HasReadSome bytes now
+LeavesUnwritten Check bytes now = now ≡ Some []
+LeavesUnwritten (Demo words) bytes now = now ≡ Some bytes
 
 -- what a command leaves of a file, by its status: of a refused head what follows the bytes that
 -- refuse it; of a stream that deviates what follows the frame at which it does, or its header where
@@ -95,7 +107,7 @@ Leaves command status.Usage bytes now = now ≡ Some bytes
 Leaves command status.BadWav bytes now = now ≡ Some (rest_in bytes)
 Leaves command status.Unsupported bytes now = now ≡ Some (rest_in bytes)
 Leaves command status.ReadFault bytes now = LeavesMidway command bytes now
-Leaves command status.WriteFault bytes now = now ≡ Some (rest_of command bytes)
+Leaves command status.WriteFault bytes now = LeavesUnwritten command bytes now
 Leaves command status.BadStream bytes now = IsSomeAnd (deviation_in bytes) (λ why. HasStopped frames_limit bytes why now)
 
 -- how many failed reads are counted after an ending, and how many failed writes: one more at its
@@ -114,50 +126,104 @@ HasNoStatistics (Encode words) = words.stats ≡ false
 HasNoStatistics Check = ⊤
 HasNoStatistics (Demo words) = ⊤
 
--- the words ask for statistics, and these are the file's: on one thread each count is made, and
--- none reused
-abbrev pub HasStatistics : Command → Report → SourceChange → Type 0
-HasStatistics (Encode words) report source = (words.stats ≡ true) × (report.made ≡ report.tried)
-    × (report.made + reused_of report ≡ report.tried)
-    × IfSome source.left (λ bytes. IsReport words.options.rate bytes report)
-HasStatistics Check report source = ⊥
-HasStatistics (Demo words) report source = ⊥
+-- the words ask for statistics, and these are the file's: so many frames, and so many gains tried,
+-- of whose counts some were made, as `Made` says, and the others reused; without workers all are made
+pub record AreStatistics (words : EncodeWords) (report : Report) (left : Option (List ℕ)) (Made : ℕ → Type 0) : Type 0 where
+  pub wanted : words.stats ≡ true
+  pub numbers : IfSome left (λ bytes. IsReport words.options.rate bytes report)
+  pub sum : report.made + reused_of report ≡ report.tried
+  pub made : Made report.made
+  pub alone : words.options.workers ≡ 0 → report.made ≡ report.tried
 
--- what notes are told of a file at success: statistics where they are asked for, and else nothing
-abbrev pub statistics_if : Bool → Rate → List ℕ → List ℕ
-statistics_if true rate bytes = statistics_line (frame_number_in bytes) (gains_in rate bytes) (gains_in rate bytes) 0
-statistics_if false rate bytes = []
+abbrev pub HasStatistics : Command → Report → Option (List ℕ) → (Made : ℕ → Type 0) → Type 0
+HasStatistics (Encode words) report left Made = AreStatistics words report left Made
+HasStatistics Check report left Made = ⊥
+HasStatistics (Demo words) report left Made = ⊥
 
-abbrev pub summary_of : Command → List ℕ → List ℕ
-summary_of (Encode words) bytes = statistics_if words.stats words.options.rate bytes
-summary_of Check bytes = []
-summary_of (Demo words) bytes = []
+-- a front of what a command makes of a file was written; of a file of which it makes nothing, nothing
+abbrev pub WritesFront : Command → List ℕ → SinkChange → Type 0
+WritesFront (Encode words) bytes sink = TakesFront words.options.rate bytes sink
+WritesFront Check bytes sink = TakesFrontOf (line_in bytes) sink.taken sink.taken_now
+WritesFront (Demo words) bytes sink = TakesFrontOf (digest_line_in words.options.rate bytes) sink.taken sink.taken_now
+
+-- what was written where a read failed: of a stream a front, of a line nothing
+abbrev pub WritesMidway : Command → Option (List ℕ) → SinkChange → Type 0
+WritesMidway (Encode words) left sink = IfSome left (λ bytes. TakesFront words.options.rate bytes sink)
+WritesMidway Check left sink = sink.untouched
+WritesMidway (Demo words) left sink = ⊥
+
+-- what was written where a write failed: a front, of a file that is not refused
+abbrev pub FailsToWrite : Command → List ℕ → SinkChange → Type 0
+FailsToWrite (Encode words) bytes sink = IsAccepted bytes × TakesFront words.options.rate bytes sink
+FailsToWrite Check bytes sink = IsSomeAnd (line_in bytes) (λ line. TakesPrefix sink.taken sink.taken_now line)
+FailsToWrite (Demo words) bytes sink =
+    IsSomeAnd (digest_line_in words.options.rate bytes) (λ line. TakesPrefix sink.taken sink.taken_now line)
+
+-- whatever the source tells: some frames that fit were written as their stream at this rate, or,
+-- where a read or a write failed, a front of it, and at any other status nothing
+abbrev pub FramesAt : Rate → Status → SinkChange → Type 0
+FramesAt rate status.Ok sink = (st : Settings) × (fs : List ChosenFrame) × (st.rate ≡ rate) × FramesFit st 0 0 fs
+    × Takes sink.taken sink.taken_now (stream_of st fs)
+FramesAt rate status.ReadFault sink = (st : Settings) × (fs : List ChosenFrame) × (st.rate ≡ rate) × FramesFit st 0 0 fs
+    × TakesPrefix sink.taken sink.taken_now (stream_of st fs)
+FramesAt rate status.WriteFault sink = (st : Settings) × (fs : List ChosenFrame) × (st.rate ≡ rate) × FramesFit st 0 0 fs
+    × TakesPrefix sink.taken sink.taken_now (stream_of st fs)
+FramesAt rate status.Memory sink = sink.untouched
+FramesAt rate status.Usage sink = sink.untouched
+FramesAt rate status.BadWav sink = sink.untouched
+FramesAt rate status.Unsupported sink = sink.untouched
+FramesAt rate status.BadStream sink = sink.untouched
+
+-- the same of a command, where it is to encode the source's file
+abbrev pub WritesFrames : Command → Status → SinkChange → Type 0
+WritesFrames (Encode words) status sink = FramesAt words.options.rate status sink
+WritesFrames Check status sink = ⊤
+WritesFrames (Demo words) status sink = ⊤
 
 -- what an ending of a command says of the file and of the bytes that were written
-abbrev pub ExplainsEnding : Command → Ending → SourceChange → SinkChange → Type 0
-ExplainsEnding command ending.Done source sink = HasNoStatistics command × IfSome (input_of command source.left) (λ bytes.
+abbrev pub ExplainsEnding : Command → Ending → SourceChange → SinkChange → (Made : ℕ → Type 0) → Type 0
+ExplainsEnding command ending.Done source sink Made = HasNoStatistics command × IfSome (input_of command source.left) (λ bytes.
     IsSomeAnd (output_of command bytes) (λ output. Takes sink.taken sink.taken_now output))
-ExplainsEnding command (ending.Counted report) source sink = HasStatistics command report source × IfSome (input_of command source.left) (λ bytes.
+ExplainsEnding command (ending.Counted report) source sink Made =
+    HasStatistics command report source.left Made × IfSome (input_of command source.left) (λ bytes.
     IsSomeAnd (output_of command bytes) (λ output. Takes sink.taken sink.taken_now output))
-ExplainsEnding command (ending.Refused why) source sink =
+ExplainsEnding command (ending.Refused why) source sink Made =
     Encodes command × IfSome source.left (λ bytes. wav_of bytes ≡ Err why) × (why ≢ fault.Read) × sink.untouched
-ExplainsEnding command (ending.Deviates why) source sink =
+ExplainsEnding command (ending.Deviates why) source sink Made =
     (command ≡ Check) × IfSome source.left (λ bytes. deviation_in bytes ≡ Some why)
     × (why ≢ stream.Read) × (why ≢ stream.Memory) × sink.untouched
-ExplainsEnding command ending.ReadFault source sink = Reads command × sink.untouched
-ExplainsEnding command ending.WriteFault source sink = IfSome (input_of command source.left) (λ bytes.
-    IsSomeAnd (output_of command bytes) (λ output. TakesPrefix sink.taken sink.taken_now output))
-ExplainsEnding command ending.Memory source sink =
+ExplainsEnding command ending.ReadFault source sink Made = Reads command × WritesMidway command source.left sink
+ExplainsEnding command ending.WriteFault source sink Made =
+    IfSome (input_of command source.left) (λ bytes. FailsToWrite command bytes sink)
+ExplainsEnding command ending.Memory source sink Made =
     NeedsMemory command × IfSome (input_of command source.left) IsAccepted × sink.untouched
-ExplainsEnding command ending.Usage source sink = ⊥
+ExplainsEnding command ending.Usage source sink Made = ⊥
 
--- a command ended so: what it wrote, what it left of the source's file, and which faults were counted
-pub record Ends (command : Command) (ending : Ending) (source : SourceChange) (sink : SinkChange) : Type 0 where
-  pub explains : ExplainsEnding command ending source sink
+-- a command ended so: what it wrote, what it left of the source's file, and which faults were counted;
+-- `Made` says how many counts of gains were made
+pub record Ends (command : Command) (ending : Ending) (source : SourceChange) (sink : SinkChange) (Made : ℕ → Type 0) : Type 0 where
+  pub explains : ExplainsEnding command ending source sink Made
+  pub frames : WritesFrames command (status_of ending) sink
   pub left : IfSome source.left (λ bytes. Leaves command (status_of ending) bytes source.left_now)
   pub kept : KeepsSource command source
   pub reads : source.faults_now ≡ failed_reads_at ending source.faults
   pub writes : sink.faults_now ≡ failed_writes_at ending sink.faults
+
+-- how an encoding ends, by whether statistics are wanted and by its answer
+abbrev pub encoded_ending : Bool → Report → Ending
+encoded_ending true report = ending.Counted report
+encoded_ending false report = ending.Done
+
+abbrev pub ending_by : EncodeWords → Result Report EncodeFault → Ending
+ending_by words (Ok report) = encoded_ending words.stats report
+ending_by words (Err encode_fault.Memory) = ending.Memory
+ending_by words (Err (encode_fault.Wav why)) = ending.Refused why
+ending_by words (Err encode_fault.Read) = ending.ReadFault
+ending_by words (Err encode_fault.Write) = ending.WriteFault
+
+-- counts are made, and it is not told how many
+abbrev pub any_number : ℕ → Type 0
+any_number made = ⊤
 
 -- no source at all
 abbrev pub no_source : SourceChange
@@ -168,13 +234,13 @@ abbrev pub EndsUntouched : Ending → SourceChange → SinkChange → Ending →
 EndsUntouched wanted source sink end = (end ≡ wanted) × source.unread × sink.untouched
 
 -- what was done, by the command that was asked for; words that are refused ask for none
-abbrev pub Does : Option Command → SourceChange → SinkChange → Ending → Type 0
-Does None source sink end = EndsUntouched ending.Usage source sink end
-Does (Some command) source sink end = Ends command end source sink
+abbrev pub Does : Option Command → SourceChange → SinkChange → (Made : ℕ → Type 0) → Ending → Type 0
+Does None source sink Made end = EndsUntouched ending.Usage source sink end
+Does (Some command) source sink Made end = Ends command end source sink Made
 
--- the same where there may have been no memory to read the words
-abbrev pub DoesOrLacks : Option Command → SourceChange → SinkChange → Ending → Type 0
-DoesOrLacks asked source sink end = Does asked source sink end ⊎ EndsUntouched ending.Memory source sink end
+-- the same where there may have been no memory to read the words, or for the guessers
+abbrev pub DoesOrLacks : Option Command → SourceChange → SinkChange → (Made : ℕ → Type 0) → Ending → Type 0
+DoesOrLacks asked source sink Made end = Does asked source sink Made end ⊎ EndsUntouched ending.Memory source sink end
 
 -- the statuses that may come of a command, or of words that are none
 abbrev pub MayCome : Option Command → Status → Type 0

@@ -5,7 +5,7 @@ ghost use Rattle.l3_encoder.specs.Changes.{sink_change, source_change};
 ghost use Rattle.l3_io.specs.Causes.{count_after};
 ghost use Rattle.l3_reader.specs.InTurn.{HasStopped};
 ghost use Rattle.mp3enc.specs.Check.{AddsUp, deviation_in, frames_limit, line_with};
-ghost use Rattle.mp3enc.specs.Program.{Ends};
+ghost use Rattle.mp3enc.specs.Program.{Ends, any_number};
 ghost use Rattle.mp3enc.specs.declared.words.Command.TheVariants as command;
 
 use crate::ending::Ending;
@@ -65,7 +65,7 @@ fn line(totals: &Totals) -> ArrayString<64>
 /// Reads the stream of a source to its end, and then gives its line to a sink. It keeps no frame.
 pub fn check<S: Source, K: Sink>(source: &mut S, sink: &mut K) -> Ending
     ensures { Ends command.Check result (source_change S.left S.faults source.old source.new)
-        (sink_change K.taken K.faults sink.old sink.new) }
+        (sink_change K.taken K.faults sink.old sink.new) any_number }
 {
     let totals = match read_totals(source) {
         Ok(totals) => totals,

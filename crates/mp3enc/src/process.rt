@@ -1,19 +1,26 @@
 //! The arguments of the process as words, and its exit status.
 
-ghost use Rattle.std.specs.Prelude.{◌≡◌, IfErr, IfOk, drop, map, string_bytes};
+ghost use Rattle.std.specs.Prelude.{◌≡◌, ◌<◌, IfErr, IfOk, drop, map, string_bytes, vec_len};
 ghost use Rattle.std.specs.Process.{exit_status};
 ghost use Rattle.l3_encoder.specs.Changes.{sink_change, source_change};
-ghost use Rattle.mp3enc.specs.Program.{DoesOrLacks, EndsUntouched, HasExited, HasRun, ending_without};
+ghost use Rattle.mp3enc.specs.Program.{DoesOrLacks, EndsUntouched, HasExited, HasRun, any_number, ending_without};
 ghost use Rattle.mp3enc.specs.Words.{command_in};
 
 use crate::ending::{Ending, tell};
-use crate::program::run_alone;
+use crate::program::run;
 use crate::status::Status;
+use l3_base::Steps;
+use l3_encoder::Gate;
+use l3_guess::Guesser;
 use l3_io::{Sink, Source};
 use std::alloc::{AllocError, Global};
 use std::env;
 use std::io::ErrorKind;
+use std::marker::Brand;
 use std::process::ExitCode;
+use std::sync::Wait;
+use std::sync::ledger::{Blank, Ledger};
+use std::thread::Threads;
 
 /// Why the arguments of the process could not be had.
 #[derive(Clone, Copy, Debug, PartialEq, Eq)]
@@ -49,25 +56,47 @@ fn words_after_name(alloc: Global, arguments: &[String]) -> Result<Vec<&str>, Al
     Ok(words)
 }
 
-// Does what the arguments of the process ask for.
-fn run_arguments<S: Source, K: Sink, N: Sink>(
+// Does what the arguments of the process ask for, with a counter of its own.
+fn run_arguments<
+    S: Source,
+    K: Sink,
+    N: Sink,
+    T: Gate + Sync,
+    L: Ledger + Send,
+    R: Threads + Wait + Sync,
+>(
+    rt: &R,
     alloc: Global,
     arguments: &[String],
     source: &mut S,
     sink: &mut K,
     notes: &mut N,
+    guessers: Vec<Box<dyn Guesser>>,
+    gate: &T,
+    blank: Blank,
 ) -> Status
-    ensures { HasRun (DoesOrLacks (command_in (drop 1 (map string_bytes arguments.now)))
-        (source_change S.left S.faults source.old source.new) (sink_change K.taken K.faults sink.old sink.new))
-        result (sink_change N.taken N.faults notes.old notes.new) }
+    requires name { blank.name ≡ L.name }
+    requires parts { blank.parts ≡ L.parts }
+    requires some { 0 < blank.parts }
+    ensures { HasRun (DoesOrLacks (command_in (vec_len guessers) (drop 1 (map string_bytes arguments.now)))
+        (source_change S.left S.faults source.old source.new) (sink_change K.taken K.faults sink.old sink.new)
+        any_number) result (sink_change N.taken N.faults notes.old notes.new) }
 {
     let Ok(words) = words_after_name(alloc, arguments) else {
         return tell(notes, Ending::Memory);
     };
-    match run_alone(alloc, words.as_slice(), source, sink, notes) {
-        Some(status) => status,
-        None => unreachable!(),
-    }
+    let mut steps: Steps<L> = Steps::start(blank);
+    run(
+        rt,
+        alloc,
+        words.as_slice(),
+        source,
+        sink,
+        notes,
+        guessers,
+        gate,
+        &mut steps,
+    )
 }
 
 /// Does what the arguments of the process ask for, and gives its exit status: the number of the
@@ -75,22 +104,35 @@ fn run_arguments<S: Source, K: Sink, N: Sink>(
 ///
 /// Where one of them is no UTF-8 the words are refused. Where there is no memory for them, that is
 /// told.
-pub fn start<S: Source, K: Sink, N: Sink>(
+pub fn start<S: Source, K: Sink, N: Sink, T: Gate + Sync, R: Threads + Wait + Sync>(
+    rt: &R,
     alloc: Global,
     arguments: Result<Vec<String>, NoWords>,
     source: &mut S,
     sink: &mut K,
     notes: &mut N,
+    guessers: Vec<Box<dyn Guesser>>,
+    gate: &T,
 ) -> ExitCode
-    ensures ran { IfOk arguments (λ texts. HasExited (DoesOrLacks (command_in (drop 1 (map string_bytes texts.items)))
-        (source_change S.left S.faults source.old source.new) (sink_change K.taken K.faults sink.old sink.new))
-        (exit_status result) (sink_change N.taken N.faults notes.old notes.new)) }
+    ensures ran { IfOk arguments (λ texts. HasExited (DoesOrLacks (command_in (vec_len guessers) (drop 1 (map string_bytes texts.items)))
+        (source_change S.left S.faults source.old source.new) (sink_change K.taken K.faults sink.old sink.new)
+        any_number) (exit_status result) (sink_change N.taken N.faults notes.old notes.new)) }
     ensures no_words { IfErr arguments (λ why. HasExited (EndsUntouched (ending_without why)
         (source_change S.left S.faults source.old source.new) (sink_change K.taken K.faults sink.old sink.new))
         (exit_status result) (sink_change N.taken N.faults notes.old notes.new)) }
 {
     let status = match arguments {
-        Ok(texts) => run_arguments(alloc, texts.as_slice(), source, sink, notes),
+        Ok(texts) => run_arguments::<S, K, N, T, Brand, R>(
+            rt,
+            alloc,
+            texts.as_slice(),
+            source,
+            sink,
+            notes,
+            guessers,
+            gate,
+            Blank::new(1),
+        ),
         Err(NoWords::NotText) => tell(notes, Ending::Usage),
         Err(NoWords::Memory) => tell(notes, Ending::Memory),
     };

@@ -1,33 +1,50 @@
-ghost use Rattle.std.specs.Prelude.{◌≡◌, ◌⊎◌, ◌<◌, ◌≢◌, true, false, Some, None, Err, IfSome, IsSome, IsSomeAnd};
+ghost use Rattle.std.specs.Prelude.{◌≡◌, ◌⊎◌, ◌+◌, ◌≤◌, ◌<◌, ◌≢◌, Some, None, IfSome, IfNone, IsSomeAnd, vec_len};
 ghost use Rattle.l3_encoder.specs.Changes.{source_change, sink_change};
-ghost use Rattle.l3_io.specs.Causes.{IsSteady, count_after};
-ghost use Rattle.l3_io.specs.Taken.{Takes, TakesPrefix};
-ghost use Rattle.l3_wav.specs.declared.fault.WavFault.{WavFault};
-ghost use Rattle.l3_wav.specs.Wav.{wav_of};
-ghost use Rattle.mp3enc.specs.Check.{deviation_in};
-ghost use Rattle.mp3enc.specs.Program.{DoesOrLacks, Encodes, Ends, HasRun, IsRefused, KeepsSource, Leaves, MayCome, input_of, output_of, summary_of};
-ghost use Rattle.mp3enc.specs.Status.{refusal_of};
-ghost use Rattle.mp3enc.specs.Words.{asked};
+ghost use Rattle.mp3enc.specs.Program.{DoesOrLacks, Ends, HasRun, KeepsSource, Leaves, WritesFrames, any_number};
+ghost use Rattle.mp3enc.specs.Promise.{Promise};
+ghost use Rattle.mp3enc.specs.Words.{HasFrames, HasOptions, HasWorkers, any_guess, asked, workers_of};
 
 use crate::check::check;
-use crate::demo::demo;
+use crate::demo::{demo, demo_ahead};
+use crate::encode::{encode, encode_ahead};
 use crate::ending::{Ending, tell};
 use crate::status::Status;
-use crate::words::{Command, command_asked};
+use crate::words::{ANY_GUESS, Command, command_asked};
 use l3_base::Steps;
-use l3_encoder::{EncodeFault, Report, encode_alone};
+use l3_encoder::Gate;
+use l3_guess::Guesser;
 use l3_io::{Sink, Source};
-use l3_words::{EncodeWords, NoCommand};
+use l3_words::NoCommand;
 use std::alloc::Global;
 use std::marker::Brand;
+use std::sync::Wait;
 use std::sync::ledger::{Blank, Ledger};
+use std::thread::Threads;
 
-// Encodes a WAV file as these words say, with a counter of its own.
-//
-// It does so on one thread: what the words say of workers is of no effect yet.
-fn encode<S: Source, K: Sink, L: Ledger + Send>(
+// Does a command on one thread.
+fn alone<S: Source, K: Sink, L: Ledger + Send>(
     alloc: Global,
-    words: EncodeWords,
+    command: Command,
+    source: &mut S,
+    sink: &mut K,
+    steps: &mut Steps<L>,
+) -> Ending
+    requires { HasFrames command }
+    ensures ended { Ends command result (source_change S.left S.faults source.old source.new)
+        (sink_change K.taken K.faults sink.old sink.new) (λ made. steps.new ≡ steps.old + made) }
+    ensures later_steps { steps.old ≤ steps.new }
+{
+    match command {
+        Command::Encode(words) => encode(alloc, words, source, sink, steps),
+        Command::Check => check(source, sink),
+        Command::Demo(words) => demo(alloc, words, sink, steps),
+    }
+}
+
+// The same with a counter of its own.
+fn alone_counted<S: Source, K: Sink, L: Ledger + Send>(
+    alloc: Global,
+    command: Command,
     source: &mut S,
     sink: &mut K,
     blank: Blank,
@@ -35,65 +52,100 @@ fn encode<S: Source, K: Sink, L: Ledger + Send>(
     requires name { blank.name ≡ L.name }
     requires parts { blank.parts ≡ L.parts }
     requires some { 0 < blank.parts }
-    ensures { Ends (Command.Encode words) result (source_change S.left S.faults source.old source.new)
-        (sink_change K.taken K.faults sink.old sink.new) }
+    requires frames { HasFrames command }
+    ensures { Ends command result (source_change S.left S.faults source.old source.new)
+        (sink_change K.taken K.faults sink.old sink.new) any_number }
 {
     let mut steps: Steps<L> = Steps::start(blank);
-    match encode_alone(alloc, words.options.rate, source, sink, &mut steps) {
-        Ok(report) => encoded(words, report),
-        Err(EncodeFault::Memory) => Ending::Memory,
-        Err(EncodeFault::Wav(fault)) => Ending::Refused(fault),
-        Err(EncodeFault::Read) => Ending::ReadFault,
-        Err(EncodeFault::Write) => Ending::WriteFault,
-    }
+    alone(alloc, command, source, sink, &mut steps)
 }
 
-// How a file ends that was encoded.
-fn encoded(words: EncodeWords, report: Report) -> Ending
-    ensures told { words.stats ≡ true → result ≡ Ending.Counted report }
-    ensures untold { words.stats ≡ false → result ≡ Ending.Done }
+// Does a command with workers.
+fn ahead<S: Source, K: Sink, T: Gate + Sync, L: Ledger + Send, R: Threads + Wait + Sync>(
+    rt: &R,
+    alloc: Global,
+    command: Command,
+    source: &mut S,
+    sink: &mut K,
+    guessers: Vec<Box<dyn Guesser>>,
+    gate: &T,
+    steps: &mut Steps<L>,
+) -> Ending
+    requires workers { HasWorkers command }
+    requires frames { HasFrames command }
+    requires options { HasOptions (vec_len guessers) command }
+    ensures ended { DoesOrLacks (Some command) (source_change S.left S.faults source.old source.new)
+        (sink_change K.taken K.faults sink.old sink.new) (λ made. steps.new ≡ steps.old + made) result }
+    ensures later_steps { steps.old ≤ steps.new }
 {
-    if words.stats {
-        Ending::Counted(report)
-    } else {
-        Ending::Done
+    match command {
+        Command::Encode(words) => {
+            encode_ahead(rt, alloc, words, source, sink, guessers, gate, steps)
+        }
+        Command::Check => unreachable!(),
+        Command::Demo(words) => demo_ahead(rt, alloc, words, sink, guessers, gate, steps),
     }
 }
 
-// Does what the words say.
-fn outcome<S: Source, K: Sink>(
+// Does what the words say, where they can be done on one thread.
+fn outcome_alone<S: Source, K: Sink>(
     alloc: Global,
     words: &[&str],
     source: &mut S,
     sink: &mut K,
-) -> Ending
-    ensures { DoesOrLacks (asked words.now) (source_change S.left S.faults source.old source.new)
-        (sink_change K.taken K.faults sink.old sink.new) result }
+) -> Option<Ending>
+    ensures ended { IfSome result (DoesOrLacks (asked any_guess words.now) (source_change S.left S.faults source.old source.new)
+        (sink_change K.taken K.faults sink.old sink.new) any_number) }
+    ensures workers { IsSomeAnd (asked any_guess words.now) HasWorkers → IfSome result (λ ending.
+        (ending ≡ Ending.Memory) × (source.new ≡ source.old) × (sink.new ≡ sink.old)) }
+    ensures none { IfNone result (IsSomeAnd (asked any_guess words.now) HasWorkers
+        × (source.new ≡ source.old) × (sink.new ≡ sink.old)) }
 {
-    match command_asked(alloc, words) {
-        Err(NoCommand::Usage) => Ending::Usage,
-        Err(NoCommand::Memory) => Ending::Memory,
-        Ok(Command::Encode(words)) => {
-            encode::<S, K, Brand>(alloc, words, source, sink, Blank::new(1))
-        },
-        Ok(Command::Check) => check(source, sink),
-        Ok(Command::Demo(words)) => demo::<K, Brand>(alloc, words, sink, Blank::new(1)),
+    match command_asked(alloc, words, ANY_GUESS) {
+        Err(NoCommand::Usage) => Some(Ending::Usage),
+        Err(NoCommand::Memory) => Some(Ending::Memory),
+        Ok(command) => {
+            if command.has_workers() {
+                None
+            } else {
+                Some(alone_counted::<S, K, Brand>(alloc, command, source, sink, Blank::new(1)))
+            }
+        }
     }
 }
 
-/// Does what the words of the command line say, and tells notes how it ended. It always answers.
+// Does what the words say.
+fn outcome<S: Source, K: Sink, T: Gate + Sync, L: Ledger + Send, R: Threads + Wait + Sync>(
+    rt: &R,
+    alloc: Global,
+    words: &[&str],
+    source: &mut S,
+    sink: &mut K,
+    guessers: Vec<Box<dyn Guesser>>,
+    gate: &T,
+    steps: &mut Steps<L>,
+) -> Ending
+    ensures ended { DoesOrLacks (asked (vec_len guessers) words.now) (source_change S.left S.faults source.old source.new)
+        (sink_change K.taken K.faults sink.old sink.new) (λ made. steps.new ≡ steps.old + made) result }
+    ensures later_steps { steps.old ≤ steps.new }
+{
+    match command_asked(alloc, words, guessers.len()) {
+        Err(NoCommand::Usage) => Ending::Usage,
+        Err(NoCommand::Memory) => Ending::Memory,
+        Ok(command) => {
+            if command.has_workers() {
+                ahead(rt, alloc, command, source, sink, guessers, gate, steps)
+            } else {
+                alone(alloc, command, source, sink, steps)
+            }
+        }
+    }
+}
+
+/// Does what the words of the command line say on one thread, and tells notes how it ended: `None`,
+/// with nothing read, written or told, where they ask for workers. It always returns.
 ///
-/// `encode` reads the WAV file of the source whole, and then writes its stream at the rate of the
-/// words, 128 kbit/s where they name none; with `--stats` it tells notes how many gains were tried.
-/// `check` reads a stream of at most 16777216 frames whole, in memory that does not grow, and then
-/// writes one line, `frames F bits B`: how many frames there are, and the sum of their units'
-/// part2_3_length. `demo` reads nothing: it encodes the signal of `l3_demo` at the rate of the words,
-/// and then writes one line, `frames F bytes B sha256 D`: how many frames and bytes its stream has,
-/// and its digest. Where the input is refused, a read fails or there is no memory, nothing is
-/// written.
-///
-/// What the stream is for the bytes of any file, and that it reads as the chosen frames and in no
-/// other way, is the law of `l3_encoder::files_are_encoded`.
+/// It does what [`run`] does with such words, and does not ask how many guessers there are.
 pub fn run_alone<S: Source, K: Sink, N: Sink>(
     alloc: Global,
     words: &[&str],
@@ -101,72 +153,87 @@ pub fn run_alone<S: Source, K: Sink, N: Sink>(
     sink: &mut K,
     notes: &mut N,
 ) -> Option<Status>
-    ensures answered { IsSomeAnd result (MayCome (asked words.now)) }
-    ensures usage_only { result ≡ Some Status.Usage → asked words.now ≡ None }
-    ensures usage { asked words.now ≡ None → (result ≡ Some Status.Usage) ⊎ (result ≡ Some Status.Memory) }
-    ensures usage_unread { result ≡ Some Status.Usage → source.new ≡ source.old }
+    ensures promise { IfSome result (λ status. Promise (asked any_guess words.now) status
+        (source_change S.left S.faults source.old source.new) (sink_change K.taken K.faults sink.old sink.new)
+        (sink_change N.taken N.faults notes.old notes.new) any_number) }
 
-    // `encode`: a head is refused only where the file's own is, and wherever it is, if no read
-    // failed and there was memory to read the words.
-    ensures bad_wav_only { result ≡ Some Status.BadWav → IfSome (S.left source.old) (IsRefused Status.BadWav) }
-    ensures unsupported_only { result ≡ Some Status.Unsupported
-        → IfSome (S.left source.old) (IsRefused Status.Unsupported) }
-    ensures refused { IsSomeAnd (asked words.now) Encodes → IsSteady (S.faults source.old) (S.faults source.new)
-        → IfSome (S.left source.old) (λ bytes. (why : WavFault) → wav_of bytes ≡ Err why →
-        (result ≡ Some (refusal_of why)) ⊎ ((result ≡ Some Status.Memory) × (source.new ≡ source.old))) }
+    // None is answered just where the words ask for workers, but where there is no memory to read
+    // them.
+    ensures none { IfNone result (IsSomeAnd (asked any_guess words.now) HasWorkers
+        × (source.new ≡ source.old) × (sink.new ≡ sink.old) × (notes.new ≡ notes.old)) }
+    ensures workers { IsSomeAnd (asked any_guess words.now) HasWorkers → IfSome result (λ status.
+        (status ≡ Status.Memory) × (source.new ≡ source.old) × (sink.new ≡ sink.old)) }
 
-    // `check`: a stream is refused only where it deviates, and wherever it does, if no read failed.
-    ensures bad_stream_only { result ≡ Some Status.BadStream
-        → IfSome (S.left source.old) (λ bytes. IsSome (deviation_in bytes)) }
-    ensures deviates { asked words.now ≡ Some Command.Check → IsSteady (S.faults source.old) (S.faults source.new)
-        → IfSome (S.left source.old) (λ bytes. IsSome (deviation_in bytes) →
-        (result ≡ Some Status.BadStream) ⊎ ((result ≡ Some Status.Memory) × (source.new ≡ source.old))) }
-
-    // Of the encoding at the rate of the words, or of the line of the stream, or of the line of the
-    // demo's own file, a front is written, the whole of it at success. At any other status than
-    // these two nothing is written.
-    ensures written { IfSome (asked words.now) (λ command. IfSome (input_of command (S.left source.old)) (λ bytes.
-        IfSome (output_of command bytes) (λ output. TakesPrefix (K.taken sink.old) (K.taken sink.new) output))) }
-    ensures whole { result ≡ Some Status.Ok → IsSomeAnd (asked words.now) (λ command. IfSome (input_of command (S.left source.old)) (λ bytes.
-        IsSomeAnd (output_of command bytes) (λ output. Takes (K.taken sink.old) (K.taken sink.new) output))) }
-    ensures untouched { result ≢ Some Status.Ok → result ≢ Some Status.WriteFault → sink.new ≡ sink.old }
-    ensures refused_untouched { IfSome (asked words.now) (λ command. IfSome (input_of command (S.left source.old)) (λ bytes.
-        output_of command bytes ≡ None → sink.new ≡ sink.old)) }
-
-    // What is left of the input: what follows the data, or the bytes that refuse a head, or the
-    // frame at which a stream deviates; where a read failed or memory ran out no less than that. The
-    // demo reads nothing.
-    ensures left { IsSomeAnd result (λ status. IfSome (asked words.now) (λ command. IfSome (S.left source.old) (λ bytes.
-        Leaves command status bytes (S.left source.new)))) }
-    ensures kept { IfSome (asked words.now) (λ command.
+    // The words of `run`'s clauses.
+    ensures some_frames { IfSome result (λ status. IfSome (asked any_guess words.now) (λ command.
+        WritesFrames command status (sink_change K.taken K.faults sink.old sink.new))) }
+    ensures untouched { result ≢ Some Status.Ok → result ≢ Some Status.ReadFault → result ≢ Some Status.WriteFault
+        → sink.new ≡ sink.old }
+    ensures kept { IfSome (asked any_guess words.now) (λ command.
         KeepsSource command (source_change S.left S.faults source.old source.new)) }
+    ensures ending { IfSome result (λ status. HasRun (DoesOrLacks (asked any_guess words.now)
+        (source_change S.left S.faults source.old source.new) (sink_change K.taken K.faults sink.old sink.new) any_number)
+        status (sink_change N.taken N.faults notes.old notes.new)) }
+{
+    match outcome_alone(alloc, words, source, sink) {
+        Some(ending) => Some(tell(notes, ending)),
+        None => None,
+    }
+}
 
-    // A fault has its cause, and a cause is told: where a read failed the answer is a read fault,
-    // and where a write failed a write fault.
-    ensures cause_read { result ≡ Some Status.ReadFault → S.faults source.new ≡ count_after (S.faults source.old) }
-    ensures cause_write { result ≡ Some Status.WriteFault → K.faults sink.new ≡ count_after (K.faults sink.old) }
-    ensures steady_read { result ≢ Some Status.ReadFault → S.faults source.new ≡ S.faults source.old }
-    ensures steady_write { result ≢ Some Status.WriteFault → K.faults sink.new ≡ K.faults sink.old }
+/// Does what the words of the command line say, and tells notes how it ended.
+///
+/// `encode` reads the WAV file of the source, and writes its stream as it reads, at the rate of the
+/// words, 128 kbit/s where they name none; with `--stats` it tells notes how many gains were tried.
+/// `check` reads a stream of at most 16777216 frames whole, in memory that does not grow, and then
+/// writes one line, `frames F bits B`: how many frames there are, and the sum of their units'
+/// part2_3_length. `demo` reads nothing: it encodes the signal of `l3_demo` at the rate of the words,
+/// and then writes one line, `frames F bytes B sha256 D`: how many frames and bytes its stream has,
+/// and its digest. Where the input is refused or there is no memory nothing is written; where a
+/// read or a write failed a front of the stream may be.
+///
+/// With `--workers` other than 0, as by default, so many threads analyse granules ahead; `--guess`
+/// names the one of these guessers that they ask, counted from 1, or with 0 the best of all. Neither
+/// they nor the gate change a byte. Steps are those of the calling thread's own counts.
+///
+/// What the stream is for the bytes of any file, and that it reads as the chosen frames and in no
+/// other way, is the law of `l3_encoder::files_are_encoded`.
+pub fn run<S: Source, K: Sink, N: Sink, T: Gate + Sync, L: Ledger + Send, R: Threads + Wait + Sync>(
+    rt: &R,
+    alloc: Global,
+    words: &[&str],
+    source: &mut S,
+    sink: &mut K,
+    notes: &mut N,
+    guessers: Vec<Box<dyn Guesser>>,
+    gate: &T,
+    steps: &mut Steps<L>,
+) -> Status
+    // All that it promises, where so many counts are made as steps are taken.
+    ensures promise { Promise (asked (vec_len guessers) words.now) result
+        (source_change S.left S.faults source.old source.new) (sink_change K.taken K.faults sink.old sink.new)
+        (sink_change N.taken N.faults notes.old notes.new) (λ made. steps.new ≡ steps.old + made) }
+    ensures later_steps { steps.old ≤ steps.new }
 
-    // Without faults an accepted file is encoded, or there is no memory, and a stream with no
-    // deviation has its line written, and so has the demo, or there is no memory.
-    ensures complete { IsSteady (S.faults source.old) (S.faults source.new)
-        → IsSteady (K.faults sink.old) (K.faults sink.new)
-        → IfSome (asked words.now) (λ command. IfSome (input_of command (S.left source.old)) (λ bytes. IsSome (output_of command bytes)
-        → (result ≡ Some Status.Ok) ⊎ ((result ≡ Some Status.Memory) × (Encodes command ⊎ (source.new ≡ source.old))))) }
+    // Whatever the source tells, what `encode` writes is a front of the stream of some frames that
+    // fit, at the rate of the words, all of it at success.
+    ensures some_frames { IfSome (asked (vec_len guessers) words.now) (λ command.
+        WritesFrames command result (sink_change K.taken K.faults sink.old sink.new)) }
+    ensures untouched { result ≢ Status.Ok → result ≢ Status.ReadFault → result ≢ Status.WriteFault
+        → sink.new ≡ sink.old }
 
-    // At success notes are told nothing, or the statistics of the file: its frames, the gains tried,
-    // of which each is counted anew, and none reused.
-    ensures statistics { result ≡ Some Status.Ok → IfSome (asked words.now) (λ command. IfSome (input_of command (S.left source.old)) (λ bytes.
-        TakesPrefix (N.taken notes.old) (N.taken notes.new) (summary_of command bytes)
-        × (IsSteady (N.faults notes.old) (N.faults notes.new) → Takes (N.taken notes.old) (N.taken notes.new) (summary_of command bytes)))) }
+    // What is left of the source, by the status; the demo leaves it as it was.
+    ensures left { IfSome (asked (vec_len guessers) words.now) (λ command. IfSome (S.left source.old) (λ bytes.
+        Leaves command result bytes (S.left source.new))) }
+    ensures kept { IfSome (asked (vec_len guessers) words.now) (λ command.
+        KeepsSource command (source_change S.left S.faults source.old source.new)) }
 
     // All of this is of one ending, and notes take a front of its text, the whole of it where their
     // count did not rise.
-    ensures notes { IsSomeAnd result (λ status. HasRun (DoesOrLacks (asked words.now)
-        (source_change S.left S.faults source.old source.new) (sink_change K.taken K.faults sink.old sink.new))
-        status (sink_change N.taken N.faults notes.old notes.new)) }
+    ensures ending { HasRun (DoesOrLacks (asked (vec_len guessers) words.now)
+        (source_change S.left S.faults source.old source.new) (sink_change K.taken K.faults sink.old sink.new)
+        (λ made. steps.new ≡ steps.old + made)) result (sink_change N.taken N.faults notes.old notes.new) }
 {
-    let ending = outcome(alloc, words, source, sink);
-    Some(tell(notes, ending))
+    let ending = outcome(rt, alloc, words, source, sink, guessers, gate, steps);
+    tell(notes, ending)
 }

@@ -1,10 +1,17 @@
+ghost use Rattle.std.specs.Prelude.{◌≡◌, ◌<◌};
+
 use crate::impulse::middle;
 use crate::process::{NoWords, start};
 use crate::sine::{period, stream};
-use crate::{Status, run_alone};
+use crate::{Status, run, run_alone};
+use l3_base::Steps;
+use l3_encoder::OpenGate;
+use l3_guess::{Flat, Guesser, Last, Mean};
 use l3_io::{MemSink, MemSource, read_full};
 use std::alloc::{AllocError, Global};
+use std::marker::Brand;
 use std::process::ExitCode;
+use std::sync::ledger::{Blank, Ledger};
 use std::test::Fail;
 
 // The head of a file of one channel at 44100 Hz, with no samples.
@@ -45,8 +52,9 @@ fn zero_sample() -> [u8; 835] {
     stream
 }
 
-// How a run ended, what a sink took of it, what notes say, and what is left of the source.
-fn run(
+// How a run on one thread ended, what a sink took of it, what notes say, and what is left of the
+// source.
+fn alone(
     rt: &HostRuntime,
     words: &[&str],
     bytes: &[u8],
@@ -61,6 +69,60 @@ fn run(
     Ok((status, sink, notes, source))
 }
 
+// How a run with these guessers ends, and what a sink took of it, with a counter of its own.
+fn counted<L: Ledger + Send>(
+    rt: &HostRuntime,
+    words: &[&str],
+    bytes: &[u8],
+    guessers: Vec<Box<dyn Guesser>>,
+    blank: Blank,
+) -> Result<(Status, MemSink), AllocError>
+    requires name { blank.name ≡ L.name }
+    requires parts { blank.parts ≡ L.parts }
+    requires some { 0 < blank.parts }
+{
+    let alloc = rt.alloc();
+    let mut steps: Steps<L> = Steps::start(blank);
+    let mut source = MemSource::new(alloc, bytes, 100, &[])?;
+    let mut sink = MemSink::new(alloc, 10000, 300, &[])?;
+    let mut notes = MemSink::new(alloc, 100, 7, &[])?;
+    let status = run(
+        rt,
+        alloc,
+        words,
+        &mut source,
+        &mut sink,
+        &mut notes,
+        guessers,
+        &OpenGate,
+        &mut steps,
+    );
+    Ok((status, sink))
+}
+
+fn with_guessers(
+    rt: &HostRuntime,
+    words: &[&str],
+    bytes: &[u8],
+    guessers: Vec<Box<dyn Guesser>>,
+) -> Result<(Status, MemSink), AllocError> {
+    counted::<Brand>(rt, words, bytes, guessers, Blank::new(1))
+}
+
+// The same with the guessers of the program.
+fn with_three(
+    rt: &HostRuntime,
+    words: &[&str],
+    bytes: &[u8],
+) -> Result<(Status, MemSink), AllocError> {
+    let alloc = rt.alloc();
+    let mut guessers: Vec<Box<dyn Guesser>> = Vec::new(alloc);
+    guessers.push(Box::new(alloc, Last::new())?)?;
+    guessers.push(Box::new(alloc, Mean::new())?)?;
+    guessers.push(Box::new(alloc, Flat::new(0))?)?;
+    with_guessers(rt, words, bytes, guessers)
+}
+
 // How many bytes a source of at most 5000 has left.
 fn left(source: &mut MemSource) -> Option<usize> {
     let mut rest = [0; 5000];
@@ -70,7 +132,13 @@ fn left(source: &mut MemSource) -> Option<usize> {
 #[test]
 fn one_zero_sample(rt: HostRuntime) -> Result<(), Fail> {
     let bytes = zeros(rt.alloc(), 1, [0x44, 0xAC], 1)?;
-    let (status, sink, notes, _) = run(&rt, &["encode"], bytes.as_slice(), 10000, &[])?;
+    let (status, sink, notes, _) = alone(
+        &rt,
+        &["encode", "--workers", "0"],
+        bytes.as_slice(),
+        10000,
+        &[],
+    )?;
     assert_eq!(rt; status, Some(Status::Ok));
     assert_eq!(rt; sink.bytes(), zero_sample().as_slice());
     assert_eq!(rt; notes.bytes().len(), 0);
@@ -81,7 +149,7 @@ fn one_zero_sample(rt: HostRuntime) -> Result<(), Fail> {
 fn one_zero_sample_with_statistics(rt: HostRuntime) -> Result<(), Fail> {
     let bytes = zeros(rt.alloc(), 1, [0x44, 0xAC], 1)?;
     let words = ["encode", "--workers", "0", "--guess", "4", "--stats"];
-    let (status, sink, notes, _) = run(&rt, &words, bytes.as_slice(), 10000, &[])?;
+    let (status, sink, notes, _) = alone(&rt, &words, bytes.as_slice(), 10000, &[])?;
     assert_eq!(rt; status, Some(Status::Ok));
     assert_eq!(rt; sink.bytes(), zero_sample().as_slice());
     assert_eq!(rt;
@@ -94,7 +162,13 @@ fn one_zero_sample_with_statistics(rt: HostRuntime) -> Result<(), Fail> {
 #[test]
 fn zeros_over_two_frames(rt: HostRuntime) -> Result<(), Fail> {
     let bytes = zeros(rt.alloc(), 1, [0x44, 0xAC], 1153)?;
-    let (status, sink, _, _) = run(&rt, &["encode"], bytes.as_slice(), 10000, &[])?;
+    let (status, sink, _, _) = alone(
+        &rt,
+        &["encode", "--workers", "0"],
+        bytes.as_slice(),
+        10000,
+        &[],
+    )?;
     assert_eq!(rt; status, Some(Status::Ok));
     assert_eq!(rt; sink.bytes().len(), 417 + 418 + 418);
     let third = sink.bytes().get(835..).unwrap_or(&[]);
@@ -104,7 +178,7 @@ fn zeros_over_two_frames(rt: HostRuntime) -> Result<(), Fail> {
 
 #[test]
 fn no_samples(rt: HostRuntime) -> Result<(), Fail> {
-    let (status, sink, _, _) = run(&rt, &["encode"], &HEAD, 10000, &[])?;
+    let (status, sink, _, _) = alone(&rt, &["encode", "--workers", "0"], &HEAD, 10000, &[])?;
     assert_eq!(rt; status, Some(Status::Ok));
     assert_eq!(rt; sink.bytes().len(), 0);
     Ok(())
@@ -113,8 +187,8 @@ fn no_samples(rt: HostRuntime) -> Result<(), Fail> {
 #[test]
 fn reservoir_fills_at_32_kbit(rt: HostRuntime) -> Result<(), Fail> {
     let bytes = zeros(rt.alloc(), 2, [0x80, 0xBB], 23040)?;
-    let words = ["encode", "--rate", "32"];
-    let (status, sink, _, _) = run(&rt, &words, bytes.as_slice(), 10000, &[])?;
+    let words = ["encode", "--rate", "32", "--workers", "0"];
+    let (status, sink, _, _) = alone(&rt, &words, bytes.as_slice(), 10000, &[])?;
     assert_eq!(rt; status, Some(Status::Ok));
     assert_eq!(rt; sink.bytes().len(), 11 * 96);
     // Where a frame's side information begins, and the nine bits of main_data_begin there.
@@ -145,8 +219,8 @@ fn reservoir_fills_at_32_kbit(rt: HostRuntime) -> Result<(), Fail> {
 #[test]
 fn no_reservoir_at_320_kbit(rt: HostRuntime) -> Result<(), Fail> {
     let bytes = zeros(rt.alloc(), 1, [0x44, 0xAC], 1)?;
-    let words = ["encode", "--rate", "0320"];
-    let (status, sink, _, _) = run(&rt, &words, bytes.as_slice(), 10000, &[])?;
+    let words = ["encode", "--rate", "0320", "--workers", "0"];
+    let (status, sink, _, _) = alone(&rt, &words, bytes.as_slice(), 10000, &[])?;
     assert_eq!(rt; status, Some(Status::Ok));
     assert_eq!(rt; sink.bytes().len(), 1044 + 1045);
     for (at, front) in [
@@ -159,16 +233,22 @@ fn no_reservoir_at_320_kbit(rt: HostRuntime) -> Result<(), Fail> {
     Ok(())
 }
 
-#[test]
-fn sine_at_32_kbit(rt: HostRuntime) -> Result<(), Fail> {
-    let mut bytes = Vec::new(rt.alloc());
+// The file of a sine wave of 3000 samples.
+fn sine_file(alloc: Global) -> Result<Vec<u8>, AllocError> {
+    let mut bytes = Vec::new(alloc);
     bytes.extend_from_slice(&head(1, [0x00, 0x7D], 6000))?;
     for n in 0..3000 {
         let sample = period().get(n % 400).copied().unwrap_or(0);
         bytes.extend_from_slice(&sample.to_le_bytes())?;
     }
-    let words = ["encode", "--rate", "32"];
-    let (status, sink, _, _) = run(&rt, &words, bytes.as_slice(), 10000, &[])?;
+    Ok(bytes)
+}
+
+#[test]
+fn sine_at_32_kbit(rt: HostRuntime) -> Result<(), Fail> {
+    let bytes = sine_file(rt.alloc())?;
+    let words = ["encode", "--rate", "32", "--workers", "0"];
+    let (status, sink, _, _) = alone(&rt, &words, bytes.as_slice(), 10000, &[])?;
     assert_eq!(rt; status, Some(Status::Ok));
     assert_eq!(rt; sink.bytes(), stream());
     Ok(())
@@ -181,7 +261,13 @@ fn impulse_at_128_kbit(rt: HostRuntime) -> Result<(), Fail> {
     if let Some(sample) = bytes.as_mut_slice().get_mut(1444..1446) {
         sample.copy_from_slice(&[0xFF, 0x7F]);
     }
-    let (status, sink, _, _) = run(&rt, &["encode"], bytes.as_slice(), 10000, &[])?;
+    let (status, sink, _, _) = alone(
+        &rt,
+        &["encode", "--workers", "0"],
+        bytes.as_slice(),
+        10000,
+        &[],
+    )?;
     assert_eq!(rt; status, Some(Status::Ok));
     let mut stream = [0; 1253];
     stream[..4].copy_from_slice(&[0xFF, 0xFB, 0x90, 0xC0]);
@@ -189,7 +275,7 @@ fn impulse_at_128_kbit(rt: HostRuntime) -> Result<(), Fail> {
     assert_eq!(rt; sink.bytes().get(13..611), Some(middle()));
     assert_eq!(rt; sink.bytes().get(..13), stream.get(..13));
     assert_eq!(rt; sink.bytes().get(611..), stream.get(611..));
-    let (status, sink, _, _) = run(&rt, &["check"], sink.bytes(), 100, &[])?;
+    let (status, sink, _, _) = alone(&rt, &["check"], sink.bytes(), 100, &[])?;
     assert_eq!(rt; status, Some(Status::Ok));
     assert_eq!(rt; sink.bytes(), b"frames 3 bits 4539\n".as_slice());
     Ok(())
@@ -203,11 +289,17 @@ fn ten_seconds_from_a_pipe(rt: HostRuntime) -> Result<(), Fail> {
     for _ in 0..3528 {
         bytes.extend_from_slice(&[0; 500])?;
     }
-    let (status, sink, _, _) = run(&rt, &["encode"], bytes.as_slice(), 1000000, &[])?;
+    let (status, sink, _, _) = alone(
+        &rt,
+        &["encode", "--workers", "0"],
+        bytes.as_slice(),
+        1000000,
+        &[],
+    )?;
     assert_eq!(rt; status, Some(Status::Ok));
     assert_eq!(rt; sink.bytes().len(), 160496);
     assert!(rt; sink.bytes().starts_with(&[0xFF, 0xFB, 0x90, 0x00]));
-    let (status, sink, _, _) = run(&rt, &["check"], sink.bytes(), 100, &[])?;
+    let (status, sink, _, _) = alone(&rt, &["check"], sink.bytes(), 100, &[])?;
     assert_eq!(rt; status, Some(Status::Ok));
     assert_eq!(rt; sink.bytes(), b"frames 384 bits 0\n".as_slice());
     Ok(())
@@ -277,7 +369,13 @@ fn refused_heads(rt: HostRuntime) -> Result<(), Fail> {
     ] {
         let mut head = HEAD;
         head[at] = byte;
-        let (answer, sink, notes, mut source) = run(&rt, &["encode"], &head, 10000, &[])?;
+        let (answer, sink, notes, mut source) = alone(
+            &rt,
+            &["encode", "--workers", "0"],
+            &head,
+            10000,
+            &[],
+        )?;
         assert_eq!(rt; answer, Some(status));
         assert_eq!(rt; sink.bytes().len(), 0);
         assert_eq!(rt; notes.bytes(), text);
@@ -289,7 +387,13 @@ fn refused_heads(rt: HostRuntime) -> Result<(), Fail> {
 #[test]
 fn read_fails_in_the_data(rt: HostRuntime) -> Result<(), Fail> {
     let bytes = zeros(rt.alloc(), 2, [0x44, 0xAC], 2304)?;
-    let (status, sink, notes, mut source) = run(&rt, &["encode"], bytes.as_slice(), 10000, &[2])?;
+    let (status, sink, notes, mut source) = alone(
+        &rt,
+        &["encode", "--workers", "0"],
+        bytes.as_slice(),
+        10000,
+        &[2],
+    )?;
     assert_eq!(rt; status, Some(Status::ReadFault));
     assert_eq!(rt; sink.bytes().len(), 0);
     assert_eq!(rt; notes.bytes(), b"mp3enc: read fault\n".as_slice());
@@ -301,7 +405,13 @@ fn read_fails_in_the_data(rt: HostRuntime) -> Result<(), Fail> {
 #[test]
 fn sink_fills_up(rt: HostRuntime) -> Result<(), Fail> {
     let bytes = zeros(rt.alloc(), 1, [0x44, 0xAC], 1)?;
-    let (status, sink, notes, _) = run(&rt, &["encode"], bytes.as_slice(), 100, &[])?;
+    let (status, sink, notes, _) = alone(
+        &rt,
+        &["encode", "--workers", "0"],
+        bytes.as_slice(),
+        100,
+        &[],
+    )?;
     assert_eq!(rt; status, Some(Status::WriteFault));
     let mut front = [0; 100];
     front[..4].copy_from_slice(&[0xFF, 0xFB, 0x90, 0xC0]);
@@ -348,7 +458,7 @@ fn check_of_fronts(rt: HostRuntime) -> Result<(), Fail> {
     ] {
         let stream = zero_sample();
         let front = stream.get(..length).unwrap_or(&[]);
-        let (answer, sink, notes, _) = run(&rt, &["check"], front, 100, &[])?;
+        let (answer, sink, notes, _) = alone(&rt, &["check"], front, 100, &[])?;
         assert_eq!(rt; answer, Some(status));
         assert_eq!(rt; sink.bytes(), line);
         assert_eq!(rt; notes.bytes(), text);
@@ -385,7 +495,7 @@ fn deviations_of_one_zero_sample(rt: HostRuntime) -> Result<(), Fail> {
     ] {
         let mut stream = zero_sample();
         stream[at] = byte;
-        let (answer, sink, notes, mut source) = run(&rt, &["check"], &stream, 100, &[])?;
+        let (answer, sink, notes, mut source) = alone(&rt, &["check"], &stream, 100, &[])?;
         assert_eq!(rt; answer, Some(Status::BadStream));
         assert_eq!(rt; sink.bytes().len(), 0);
         assert_eq!(rt; notes.bytes(), text);
@@ -396,7 +506,7 @@ fn deviations_of_one_zero_sample(rt: HostRuntime) -> Result<(), Fail> {
 
 #[test]
 fn check_of_a_sine(rt: HostRuntime) -> Result<(), Fail> {
-    let (status, sink, _, _) = run(&rt, &["check"], stream(), 100, &[])?;
+    let (status, sink, _, _) = alone(&rt, &["check"], stream(), 100, &[])?;
     assert_eq!(rt; status, Some(Status::Ok));
     assert_eq!(rt; sink.bytes(), b"frames 4 bits 3616\n".as_slice());
     Ok(())
@@ -404,11 +514,11 @@ fn check_of_a_sine(rt: HostRuntime) -> Result<(), Fail> {
 
 #[test]
 fn check_with_faults(rt: HostRuntime) -> Result<(), Fail> {
-    let (status, sink, notes, _) = run(&rt, &["check"], &zero_sample(), 100, &[7])?;
+    let (status, sink, notes, _) = alone(&rt, &["check"], &zero_sample(), 100, &[7])?;
     assert_eq!(rt; status, Some(Status::ReadFault));
     assert_eq!(rt; sink.bytes().len(), 0);
     assert_eq!(rt; notes.bytes(), b"mp3enc: read fault\n".as_slice());
-    let (status, sink, notes, _) = run(&rt, &["check"], &zero_sample(), 8, &[])?;
+    let (status, sink, notes, _) = alone(&rt, &["check"], &zero_sample(), 8, &[])?;
     assert_eq!(rt; status, Some(Status::WriteFault));
     assert_eq!(rt; sink.bytes(), b"frames 2".as_slice());
     assert_eq!(rt; notes.bytes(), b"mp3enc: write fault\n".as_slice());
@@ -419,12 +529,24 @@ fn check_with_faults(rt: HostRuntime) -> Result<(), Fail> {
 fn demo_of_one_frame(rt: HostRuntime) -> Result<(), Fail> {
     let line =
         b"frames 2 bytes 835 sha256 239a087f9534db4f34903a8e9f223ee9f85300d56a5cd08516f4694c0959df17\n";
-    let (status, sink, notes, mut source) = run(&rt, &["demo", "1", "0"], &HEAD, 100, &[0])?;
+    let (status, sink, notes, mut source) = alone(
+        &rt,
+        &["demo", "1", "0", "--workers", "0"],
+        &HEAD,
+        100,
+        &[0],
+    )?;
     assert_eq!(rt; status, Some(Status::Ok));
     assert_eq!(rt; sink.bytes(), line.as_slice());
     assert_eq!(rt; notes.bytes().len(), 0);
     assert!(rt; left(&mut source).is_none());
-    let (status, sink, notes, _) = run(&rt, &["demo", "1", "0"], &HEAD, 8, &[])?;
+    let (status, sink, notes, _) = alone(
+        &rt,
+        &["demo", "1", "0", "--workers", "0"],
+        &HEAD,
+        8,
+        &[],
+    )?;
     assert_eq!(rt; status, Some(Status::WriteFault));
     assert_eq!(rt; sink.bytes(), b"frames 2".as_slice());
     assert_eq!(rt; notes.bytes(), b"mp3enc: write fault\n".as_slice());
@@ -433,7 +555,7 @@ fn demo_of_one_frame(rt: HostRuntime) -> Result<(), Fail> {
 
 // Whether words are refused, with nothing read and nothing written.
 fn is_refused(rt: &HostRuntime, words: &[&str]) -> Result<bool, AllocError> {
-    let (status, sink, notes, mut source) = run(rt, words, &HEAD, 10000, &[])?;
+    let (status, sink, notes, mut source) = alone(rt, words, &HEAD, 10000, &[])?;
     let usage = b"mp3enc: usage: mp3enc encode, check or demo FRAMES SEED\n";
     Ok(
         status == Some(Status::Usage)
@@ -447,7 +569,6 @@ fn is_refused(rt: &HostRuntime, words: &[&str]) -> Result<bool, AllocError> {
 fn words_refused(rt: HostRuntime) -> Result<(), Fail> {
     assert!(rt; is_refused(&rt, &[])?);
     assert!(rt; is_refused(&rt, &["encode", "--rate", "100"])?);
-    assert!(rt; is_refused(&rt, &["encode", "--guess", "4"])?);
     assert!(rt; is_refused(&rt, &["demo", "0", "1"])?);
     Ok(())
 }
@@ -467,7 +588,16 @@ fn arguments_that_are_no_words(rt: HostRuntime) -> Result<(), Fail> {
         let mut source = MemSource::new(alloc, &HEAD, 100, &[])?;
         let mut sink = MemSink::new(alloc, 100, 300, &[])?;
         let mut notes = MemSink::new(alloc, 100, 7, &[])?;
-        let answer = start(alloc, Err(why), &mut source, &mut sink, &mut notes);
+        let answer = start(
+            &rt,
+            alloc,
+            Err(why),
+            &mut source,
+            &mut sink,
+            &mut notes,
+            Vec::new(alloc),
+            &OpenGate,
+        );
         assert_eq!(rt; answer, ExitCode::from(code));
         assert_eq!(rt; sink.bytes().len(), 0);
         assert_eq!(rt; notes.bytes(), text);
@@ -485,8 +615,81 @@ fn words_after_the_name(rt: HostRuntime) -> Result<(), Fail> {
     let mut arguments = Vec::new(alloc);
     arguments.push(String::from_str(alloc, "encode")?)?;
     arguments.push(String::from_str(alloc, "check")?)?;
-    let answer = start(alloc, Ok(arguments), &mut source, &mut sink, &mut notes);
+    let answer = start(
+        &rt,
+        alloc,
+        Ok(arguments),
+        &mut source,
+        &mut sink,
+        &mut notes,
+        Vec::new(alloc),
+        &OpenGate,
+    );
     assert_eq!(rt; answer, ExitCode::SUCCESS);
     assert_eq!(rt; sink.bytes(), b"frames 2 bits 0\n".as_slice());
+    Ok(())
+}
+
+#[test]
+fn workers_change_no_byte(rt: HostRuntime) -> Result<(), Fail> {
+    let zero = zeros(rt.alloc(), 1, [0x44, 0xAC], 1)?;
+    let (status, sink) = with_three(&rt, &["encode", "--workers", "2"], zero.as_slice())?;
+    assert_eq!(rt; status, Status::Ok);
+    assert_eq!(rt; sink.bytes(), zero_sample().as_slice());
+    let sine = sine_file(rt.alloc())?;
+    let words = ["encode", "--rate", "32", "--workers", "2"];
+    let (status, sink) = with_three(&rt, &words, sine.as_slice())?;
+    assert_eq!(rt; status, Status::Ok);
+    assert_eq!(rt; sink.bytes(), stream());
+    Ok(())
+}
+
+// The line of the demo of 100 frames with the number 7, from a program that shares nothing with
+// this one.
+fn demo_line() -> &'static [u8] {
+    b"frames 101 bytes 42213 sha256 8bf9ad55658e05e7fd4910572a556ce335c01b37fe07d50666364a7b1491db47\n"
+}
+
+#[test]
+fn guesses_change_no_byte(rt: HostRuntime) -> Result<(), Fail> {
+    for guess in ["0", "1", "2", "3"] {
+        let words = [
+            "demo",
+            "100",
+            "7",
+            "--workers",
+            "2",
+            "--ahead",
+            "2",
+            "--guess",
+            guess,
+        ];
+        let (status, sink) = with_three(&rt, &words, &[])?;
+        assert_eq!(rt; status, Status::Ok);
+        assert_eq!(rt; sink.bytes(), demo_line());
+    }
+    let alloc = rt.alloc();
+    let mut guessers: Vec<Box<dyn Guesser>> = Vec::new(alloc);
+    guessers.push(Box::new(alloc, Flat::new(u32::MAX))?)?;
+    let words = ["demo", "100", "7", "--workers", "1", "--ahead", "2"];
+    let (status, sink) = with_guessers(&rt, &words, &[], guessers)?;
+    assert_eq!(rt; status, Status::Ok);
+    assert_eq!(rt; sink.bytes(), demo_line());
+    Ok(())
+}
+
+#[test]
+fn guesses_of_no_guesser(rt: HostRuntime) -> Result<(), Fail> {
+    let (status, _) = with_three(&rt, &["encode", "--guess", "4"], &HEAD)?;
+    assert_eq!(rt; status, Status::Usage);
+    let words = ["encode", "--workers", "0", "--guess", "4"];
+    let (status, _) = with_three(&rt, &words, &HEAD)?;
+    assert_eq!(rt; status, Status::Ok);
+    let none = Vec::new(rt.alloc());
+    let (status, _) = with_guessers(&rt, &["encode", "--guess", "0"], &HEAD, none)?;
+    assert_eq!(rt; status, Status::Usage);
+    let (status, sink, notes, _) = alone(&rt, &["encode", "--guess", "4"], &HEAD, 100, &[0])?;
+    assert_eq!(rt; status, None);
+    assert_eq!(rt; (sink.bytes().len(), notes.bytes().len()), (0, 0));
     Ok(())
 }
