@@ -55,7 +55,7 @@ sample-small : (x : ℤ) → FitsSigned w16 x → unsigned_abs x ≤ 2 ^ 15
 sample-small (pos n) fits = omega (arith, fits)
 sample-small (negsuc n) fits = omega (arith, fits)
 
-samples-within : (samples : List ℤ) → All (FitsSigned w16) samples → AreSamples samples
+pub samples-within : (samples : List ℤ) → All (FitsSigned w16) samples → AreSamples samples
 samples-within samples fit =
     All-weaker (FitsSigned w16) (λ x. unsigned_abs x ≤ 2 ^ 15) sample-small samples fit
 

@@ -1,2 +1,4 @@
 pub mod Refused
 pub mod FileStreams
+pub mod Turned
+pub mod Fresh

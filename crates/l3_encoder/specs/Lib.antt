@@ -3,4 +3,5 @@ pub use Rattle.l3_wav.specs.Wav
 pub mod Changes
 pub mod Encoded
 pub mod Opening
+pub mod Turned
 pub mod FileLaws

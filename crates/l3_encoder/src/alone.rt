@@ -2,10 +2,13 @@ ghost use Rattle.std.specs.Prelude.{◌≡◌, ◌+◌, ◌≤◌, IfOk, IfSome}
 ghost use Rattle.l3_encoder.specs.Changes.{source_change, sink_change};
 ghost use Rattle.l3_encoder.specs.Encoded.{CountsReads, CountsWrites, ExplainsReport, GivesSomeFrames, IsBeforeFirst, LeavesInput, gains_in};
 
-use crate::opening::open_file;
+use crate::answer::answer_of;
+use crate::opening::{open_file, settings_of};
 use l3_base::{Rate, Steps};
-use l3_commit::{EncodeFault, Report};
+use l3_commit::{Committer, EncodeFault, Report};
 use l3_io::{Sink, Source};
+use l3_turns::encode_turns;
+use l3_wav::Samples;
 use std::alloc::Global;
 use std::sync::ledger::Ledger;
 
@@ -44,8 +47,13 @@ pub fn encode_alone<S: Source, K: Sink, L: Ledger + Send>(
     ensures later_steps { steps.old ≤ steps.new }
     ensures unstepped { IsBeforeFirst result → steps.new ≡ steps.old }
 {
-    match open_file(source) {
-        Ok(_) => Err(EncodeFault::Memory),
-        Err(fault) => Err(fault),
-    }
+    let head = match open_file(source) {
+        Ok(head) => head,
+        Err(fault) => return Err(fault),
+    };
+    let settings = settings_of(rate, &head);
+    let Ok(mut committer) = Committer::open(alloc, settings, 0, Samples::new(&head)) else {
+        return Err(EncodeFault::Memory);
+    };
+    answer_of(encode_turns(settings, &mut committer, source, sink, steps))
 }

@@ -1,17 +1,63 @@
-ghost use Rattle.std.specs.Prelude.{◌≡◌, ◌+◌, ◌≤◌, IfOk, IfSome};
+ghost use Rattle.std.specs.Prelude.{◌≡◌, ◌+◌, ◌≤◌, All, IfOk, IfSome, None, vec_len};
+ghost use Rattle.l3_board.specs.Desk.{fresh_desk};
+ghost use Rattle.l3_lanes.specs.Calls.{IsDeskOf, IsSeatOf, claimed};
 ghost use Rattle.l3_encoder.specs.Changes.{source_change, sink_change};
 ghost use Rattle.l3_encoder.specs.Encoded.{CountsReads, CountsWrites, ExplainsReport, GivesSomeFrames, IsBeforeFirst, LeavesInput, gains_in};
 
-use crate::opening::open_file;
-use l3_base::{Rate, Steps};
-use l3_commit::{EncodeFault, Report};
+use crate::answer::answer_of;
+use crate::opening::{open_file, settings_of};
+use crate::over::encode_over;
+use l3_analysis::PieceBox;
+use l3_base::{Rate, Settings, Steps};
+use l3_commit::{Committer, EncodeFault, Report};
 use l3_guess::Guesser;
 use l3_io::{Sink, Source};
+use l3_lanes::{LaneBoard, LaneDesk, LaneSeat};
+use l3_wav::Samples;
 use l3_workers::{Gate, Lanes};
-use std::alloc::Global;
+use std::alloc::{AllocError, Global};
 use std::sync::Wait;
 use std::sync::ledger::Ledger;
 use std::thread::Threads;
+
+// So many pieces, blank.
+pub(crate) fn blanks(
+    alloc: Global,
+    settings: Settings,
+    count: u8,
+) -> Result<Vec<PieceBox>, AllocError>
+    ensures { IfOk result (λ blanks. vec_len blanks ≡ count) }
+{
+    let mut blanks = Vec::new(alloc);
+    for _ in 0..count {
+        blanks.push(PieceBox::new(alloc, settings)?)?;
+    }
+    Ok(blanks)
+}
+
+// A board without locks, its desk, and a seat for each worker.
+fn lane_board(
+    alloc: Global,
+    settings: Settings,
+    lanes: Lanes,
+) -> Result<
+    (
+        LaneBoard<PieceBox>,
+        LaneDesk<PieceBox>,
+        Vec<LaneSeat<PieceBox>>,
+    ),
+    AllocError,
+>
+    requires workers { (1 ≤ lanes.workers) × (lanes.workers ≤ 16) }
+    requires ahead { (1 ≤ lanes.ahead) × (lanes.ahead ≤ 64) }
+    ensures cells { IfOk result (λ made. made.0.cells ≡ lanes.ahead) }
+    ensures desk { IfOk result (λ made. IsDeskOf made.0 made.1) }
+    ensures kept { IfOk result (λ made. made.1.kept ≡ fresh_desk lanes.ahead) }
+    ensures seats { IfOk result (λ made. All (λ seat. IsSeatOf made.0 seat × (claimed seat ≡ None)) made.2.items) }
+{
+    let blanks = blanks(alloc, settings, lanes.ahead)?;
+    LaneBoard::new(alloc, lanes.workers, blanks)
+}
 
 /// Encodes the WAV file of a source at a rate, with workers that analyse granules ahead of the one
 /// that is committed, over a board without locks: the same bytes as [`encode_alone`] gives.
@@ -57,8 +103,29 @@ pub fn encode_with<
     ensures later_steps { steps.old ≤ steps.new }
     ensures unstepped { IsBeforeFirst result → steps.new ≡ steps.old }
 {
-    match open_file(source) {
-        Ok(_) => Err(EncodeFault::Memory),
-        Err(fault) => Err(fault),
-    }
+    let head = match open_file(source) {
+        Ok(head) => head,
+        Err(fault) => return Err(fault),
+    };
+    let settings = settings_of(rate, &head);
+    let samples = Samples::new(&head);
+    let Ok(mut committer) = Committer::open(alloc, settings, lanes.ahead, samples) else {
+        return Err(EncodeFault::Memory);
+    };
+    let Ok((board, mut desk, seats)) = lane_board(alloc, settings, lanes) else {
+        return Err(EncodeFault::Memory);
+    };
+    answer_of(encode_over(
+        rt,
+        settings,
+        &mut committer,
+        guesser,
+        &board,
+        &mut desk,
+        seats,
+        gate,
+        source,
+        sink,
+        steps,
+    ))
 }

@@ -1,5 +1,5 @@
 -- The loop over granules: what was pushed and told so far, and what is left to say at its ends.
-use Rattle.std.proofs.Common.{◌≡◌, ◌∙◌, sym, ap, subst, refl, ℕ, zero, suc, ◌+◌, ◌-◌, ◌*◌, ◌%◌, ◌^◌, ◌<◌, ◌≤◌, ◌⊎◌, inl, inr, true, false, List, [], ◌++◌, ℤ, length, min, arith}
+use Rattle.std.proofs.Common.{◌≡◌, ◌∙◌, sym, ap, subst, refl, ℕ, zero, suc, ◌+◌, ◌-◌, ◌*◌, ◌%◌, ◌<◌, ◌≤◌, ◌⊎◌, inl, inr, true, false, List, [], ◌++◌, ℤ, length, arith}
 use Rattle.std.specs.Prelude.{Result, Option, Some, None, IfSome, IsSomeAnd, drop, nat_eq}
 use Rattle.std.proofs.lemmas.List.{append-nil}
 use Rattle.std.proofs.lemmas.Bool.Decides.{nat_tests}
@@ -7,7 +7,9 @@ use Rattle.l3_base.specs.declared.settings.Settings.{Settings}
 use Rattle.l3_base.specs.Lengths.{frames_for, granules_for}
 use Rattle.l3_io.specs.Taken.{TakesPrefix, Writes}
 use Rattle.l3_io.proofs.TakenLemmas.{Writes-then}
+use Rattle.l3_wav.proofs.PcmLemmas.{gone_further}
 use Rattle.l3_windows.specs.Holding.{WindowsView, Holds, GoesOn}
+use Rattle.l3_windows.specs.Reading.{AreGone}
 use Rattle.l3_stream.specs.declared.unit.ChosenFrame.{ChosenFrame}
 use Rattle.l3_stream.specs.Tape.{FramesFit, stream_of}
 use Rattle.l3_frames.specs.Writing.{Writing, owed}
@@ -21,7 +23,7 @@ use Rattle.l3_commit.proofs.Rests.{frames-split}
 use Rattle.l3_commit.proofs.Encodings.{chosen-fit}
 use Rattle.l3_turns.specs.Turning.{IsBehind, FitAfter, Pushes, Halts, AreChosen, Turns, Breaks}
 use Rattle.l3_commit.specs.declared.report.Report.{Report}
-use Rattle.l3_turns.specs.Answers.{frames_told, IsReport}
+use Rattle.l3_turns.specs.Answers.{IsReport}
 use Rattle.l3_turns.proofs.Pushed.{pushes-none, pushes-then, halts-here, halts-then, fresh, behind-first}
 use Rattle.l3_turns.proofs.Counts.{tried_so_far, tried-none, tried-more, tried-within, tried-next-within, tried-all}
 
@@ -283,17 +285,17 @@ finished c d st v old mid new (Some bytes) (Some now) fs tried result start owes
 
 -- what it counted
 pub counted : (c d : CommitterView) (st : Settings) (v : Writing) (old new : List ℕ → Type 0) (left_old left_new : Option (List ℕ)) (fs : List ChosenFrame) (tried frames : ℕ)
-    → length d.track.granules < 2 → AllDone d → frames ≡ frames_told d.track.frame → Ran c d (fresh st) v old new left_old left_new fs tried
-    → IfSome left_old (λ bytes. (left right : List ℤ) → StandsFor c bytes st left right → (frames ≡ frames_told (frames_for (length left))) × (tried ≡ gains_tried st left right))
+    → length d.track.granules < 2 → AllDone d → frames ≡ d.track.frame → Ran c d (fresh st) v old new left_old left_new fs tried
+    → IfSome left_old (λ bytes. (left right : List ℤ) → StandsFor c bytes st left right → (frames ≡ frames_for (length left)) × (tried ≡ gains_tried st left right))
 counted c d st v old new None left_new fs tried frames few all is ran = tt
 counted c d st v old new (Some bytes) None fs tried frames few all is ran = absurd ran.told
 counted c d st v old new (Some bytes) (Some now) fs tried frames few all is ran = λ left right s.
     let done = at-end d now st left right few all (ran.told.stands st left right s) in
-    (is ∙ ap frames_told done.0, ran.told.gains st left right s ∙ tried-all st left right d.track.frame (length d.track.granules) done.0 done.1)
+    (is ∙ done.0, ran.told.gains st left right s ∙ tried-all st left right d.track.frame (length d.track.granules) done.0 done.1)
 
 -- ---- what is left of the source
 
-frames-many : (n : ℕ) → 0 < n → n ≤ 576 * granules_for n
+pub frames-many : (n : ℕ) → 0 < n → n ≤ 576 * granules_for n
 frames-many n some =
     let e : nat_eq n 0 ≡ false = grind (arith, nat_tests) in
     rw e (omega arith)
@@ -325,7 +327,7 @@ rest-left c d st w v old new (Some bytes) (Some now) fs tried ahead some all the
 -- ---- no more is counted than all frames try
 
 pub steps-within : (c d : CommitterView) (st : Settings) (w v : Writing) (old new : List ℕ → Type 0) (left_old left_new : Option (List ℕ)) (fs : List ChosenFrame) (tried made before now : ℕ)
-    → length d.track.granules < 2 → made ≡ tried → now ≡ before + made → Ran c d w v old new left_old left_new fs tried
+    → length d.track.granules < 2 → made ≤ tried → now ≡ before + made → Ran c d w v old new left_old left_new fs tried
     → IfSome left_old (λ bytes. (left right : List ℤ) → StandsFor c bytes st left right → now ≤ before + gains_tried st left right)
 steps-within c d st w v old new None left_new fs tried made before now few same ticks ran = tt
 steps-within c d st w v old new (Some bytes) None fs tried made before now few same ticks ran = absurd ran.told
@@ -337,7 +339,7 @@ steps-within c d st w v old new (Some bytes) (Some last) fs tried made before no
 
 -- nor after a turn that broke off
 pub broke-within : (c d : CommitterView) (st : Settings) (w v : Writing) (old new : List ℕ → Type 0) (left_old left_new : Option (List ℕ)) (fs : List ChosenFrame) (tried made before now last : ℕ)
-    → length d.track.granules < 2 → made ≡ tried → now ≡ before + made → Ran c d w v old new left_old left_new fs tried
+    → length d.track.granules < 2 → made ≤ tried → now ≡ before + made → Ran c d w v old new left_old left_new fs tried
     → ((bytes : List ℕ) (left right : List ℤ) → Holds d.windows bytes left right → next_of d.track < granules_for (length left))
     → ((bytes : List ℕ) (s : Settings) (left right : List ℤ) → StandsFor d bytes s left right → last ≤ now + tried_at s (spectra_of left right) d.track.frame (length d.track.granules))
     → IfSome left_old (λ bytes. (left right : List ℤ) → StandsFor c bytes st left right → last ≤ before + gains_tried st left right)
@@ -353,20 +355,30 @@ broke-within c d st w v old new (Some bytes) (Some rest) fs tried made before no
 -- ---- how many frames there are
 
 -- after the first granule of a frame
-pub told-on : (frames frame few last low number : ℕ) → frames ≡ frames_told frame → few < 2 → low < 2 → number ≡ 2 * frame + few → 2 * last + low ≡ number + 1 → (number % 2 ≡ 1 → ⊥) → frames ≡ frames_told last
-told-on frames frame zero last low number is turn less at next even =
+pub frames-on : (frames frame few last low number : ℕ) → frames ≡ frame → few < 2 → low < 2 → number ≡ 2 * frame + few → 2 * last + low ≡ number + 1 → (number % 2 ≡ 1 → ⊥) → frames ≡ last
+frames-on frames frame zero last low number is turn less at next even =
     let same : last ≡ frame = omega (arith, less, at, next) in
-    is ∙ ap frames_told (sym same)
-told-on frames frame (suc zero) last low number is turn less at next even =
+    is ∙ sym same
+frames-on frames frame (suc zero) last low number is turn less at next even =
     let odd : number % 2 ≡ 1 = omega (arith, at) in
     absurd (even odd)
-told-on frames frame (suc (suc few)) last low number is turn less at next even = absurd (omega arith)
+frames-on frames frame (suc (suc few)) last low number is turn less at next even = absurd (omega arith)
 
 -- after the second
-pub told-push : (frames frame few last low number : ℕ) → frames ≡ frames_told frame → few < 2 → low < 2 → number ≡ 2 * frame + few → 2 * last + low ≡ number + 1 → number % 2 ≡ 1 → min (frames + 1) (2 ^ 32 - 1) ≡ frames_told last
-told-push frames frame few last low number is turn less at next odd =
-    let same : last ≡ frame + 1 = omega (arith, turn, less, at, next, odd) in
-    rw (is, same) (omega arith)
+pub frames-more : (frames frame few last low number : ℕ) → frames ≡ frame → few < 2 → low < 2 → number ≡ 2 * frame + few → 2 * last + low ≡ number + 1 → number % 2 ≡ 1 → frames + 1 ≡ last
+frames-more frames frame few last low number is turn less at next odd = omega (arith, is, turn, less, at, next, odd)
+
+-- ---- which of the source's bytes are gone
+
+pub none-gone : (before : ℕ) (left : Option (List ℕ)) → AreGone before before left left
+none-gone before None = ([], omega arith, tt)
+none-gone before (Some bytes) = ([], omega arith, refl)
+
+pub twice-gone : (before between now : ℕ) (left_old left_mid left_new : Option (List ℕ)) → AreGone before between left_old left_mid → AreGone between now left_mid left_new → AreGone before now left_old left_new
+twice-gone before between now left_old left_mid left_new first second = gone_further left_old left_mid left_new before between now first second
+
+pub gone-all : (before now : ℕ) (left_old left_new : Option (List ℕ)) → AreGone before now left_old left_new → AreGone before 0 left_old left_new
+gone-all before now left_old left_new gone = (gone.0, omega (arith, gone.1), gone.2)
 
 -- ---- the same in the words of the answers
 
@@ -376,7 +388,7 @@ IfSome-samples c st old new None h = tt
 IfSome-samples c st old new (Some bytes) h = λ left right s l r. h left right s
 
 pub reported : (c : CommitterView) (st : Settings) (left_old : Option (List ℕ)) (report : Report)
-    → IfSome left_old (λ bytes. (left right : List ℤ) → StandsFor c bytes st left right → (report.frames ≡ frames_told (frames_for (length left))) × (report.tried ≡ gains_tried st left right))
+    → IfSome left_old (λ bytes. (left right : List ℤ) → StandsFor c bytes st left right → (report.frames ≡ frames_for (length left)) × (report.tried ≡ gains_tried st left right))
     → IfSome left_old (λ bytes. (left right : List ℤ) → StandsFor c bytes st left right → IsReport st left right report)
 reported c st None report h = tt
 reported c st (Some bytes) report h = λ left right s. record { frames = (h left right s).0; tried = (h left right s).1 }

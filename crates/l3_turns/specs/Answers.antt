@@ -1,5 +1,5 @@
 -- What an encoding of samples as they come says by its answer.
-use Rattle.std.specs.Prelude.{◌≡◌, ℕ, ◌-◌, ◌^◌, min, List, length, ℤ, Result, Ok, Err, IfOk}
+use Rattle.std.specs.Prelude.{◌≡◌, ℕ, List, length, ℤ, Result, Ok, Err, IfOk}
 use Rattle.l3_base.specs.declared.settings.Settings.{Settings}
 use Rattle.l3_base.specs.Lengths.{frames_for}
 use Rattle.l3_io.specs.Causes.{count_after}
@@ -12,10 +12,6 @@ use Rattle.l3_commit.specs.Laws.{AreSamples}
 use Rattle.l3_turns.specs.declared.encoding.TurnFault.{TurnFault}
 use Rattle.l3_turns.specs.declared.encoding.TurnFault.TheVariants.{Read, Write}
 
--- the number of frames, as far as a word of 32 bits tells it
-abbrev pub frames_told : ℕ → ℕ
-frames_told n = min n (2 ^ 32 - 1)
-
 -- the encoding of samples was taken; after a fault a front of it
 abbrev pub GivesStream : Settings → (left right : List ℤ) → Result Report TurnFault → (old new : List ℕ → Type 0) → Type 0
 GivesStream st left right (Ok report) old new = Takes old new (encoding_of st left right)
@@ -27,11 +23,11 @@ GivesStream st left right (Err fault) old new =
 abbrev pub GivesFrames : Settings → Result Report TurnFault → (old new : List ℕ → Type 0) → Type 0
 GivesFrames st result old new = (fs : List ChosenFrame) × FramesFit st 0 0 fs
     × Writes old new result (stream_of st fs)
-    × IfOk result (λ report. report.frames ≡ frames_told (length fs))
+    × IfOk result (λ report. report.frames ≡ length fs)
 
 -- its numbers are those of the choice of frames
 pub record IsReport (st : Settings) (left right : List ℤ) (report : Report) : Type 0 where
-  pub frames : report.frames ≡ frames_told (frames_for (length left))
+  pub frames : report.frames ≡ frames_for (length left)
   pub tried : report.tried ≡ gains_tried st left right
 
 -- a read fault is one fault of the source and none of the sink, a write fault the other way round,

@@ -1,4 +1,5 @@
 ghost use Rattle.std.specs.Prelude.{◌≡◌, ◌+◌, ◌<◌, ◌≤◌, ℕ, ℤ, List, Some, drop, length, false, IfOk, IfSome, OnOk};
+ghost use Rattle.l3_windows.specs.Reading.{AreGone};
 ghost use Rattle.l3_commit.specs.Encoding.{gains_tried};
 ghost use Rattle.l3_commit.specs.Standing.{StandsFor};
 ghost use Rattle.l3_commit.specs.Tracks.{first_track};
@@ -6,7 +7,7 @@ ghost use Rattle.l3_turns.specs.Answers.{CountsFaults, GivesFrames, GivesStream,
 
 use crate::turn;
 use l3_base::{Settings, Steps};
-use l3_commit::{Report, Committer};
+use l3_commit::{Committer, Report};
 use l3_frames::FrameWriter;
 use l3_guess::Flat;
 use l3_io::{Sink, Source};
@@ -45,6 +46,8 @@ pub fn encode_turns<S: Source, K: Sink, L: Ledger + Send>(
     // What follows the data is left, and nothing of the data.
     ensures rest { OnOk result (IfSome (S.left source.old) (λ bytes. (left right : List ℤ) → StandsFor committer.old bytes settings left right →
         S.left source.new ≡ Some (drop committer.old.windows.samples.remaining bytes))) }
+    // No byte behind the data is gone.
+    ensures gone { AreGone committer.old.windows.samples.remaining 0 (S.left source.old) (S.left source.new) }
     ensures report { IfOk result (λ report. IfSome (S.left source.old) (λ bytes. (left right : List ℤ) → StandsFor committer.old bytes settings left right →
         IsReport settings left right report)) }
     ensures ticks { IfOk result (λ report. (report.made ≡ report.tried) × (steps.new ≡ steps.old + report.made)) }
@@ -73,7 +76,7 @@ pub fn encode_turns<S: Source, K: Sink, L: Ledger + Send>(
         tried += u64::from(done.tried);
         made += u64::from(done.made);
         if number.get() % 2 == 1 {
-            frames = frames.saturating_add(1);
+            frames += 1;
         }
     }
     match writer.finish(sink) {

@@ -2,7 +2,7 @@ ghost use Rattle.std.specs.Prelude.{◌≡◌, ◌<◌};
 
 use crate::{TurnFault, encode_turns};
 use l3_base::{Channels, Rate, SampleRate, Settings, Steps};
-use l3_commit::{Report, Committer};
+use l3_commit::{Committer, Report};
 use l3_io::{MemSink, MemSource, read_full};
 use l3_wav::{Samples, WavHead};
 use std::alloc::{AllocError, Global};

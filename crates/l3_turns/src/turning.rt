@@ -12,7 +12,7 @@ ghost use Rattle.l3_commit.specs.Tried.{tried_at};
 ghost use Rattle.l3_turns.specs.Turning.{Breaks, IsBehind, Turns};
 
 use l3_base::{GranuleNo, Steps, WriteFault};
-use l3_commit::{GranuleDone, Committer};
+use l3_commit::{Committer, GranuleDone};
 use l3_frames::FrameWriter;
 use l3_guess::Guesser;
 use l3_io::Sink;
