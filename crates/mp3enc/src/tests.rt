@@ -11,8 +11,10 @@ use l3_io::{MemSink, MemSource, read_full};
 use std::alloc::{AllocError, Global};
 use std::marker::Brand;
 use std::process::ExitCode;
+use std::sync::Wait;
 use std::sync::ledger::{Blank, Ledger};
 use std::test::Fail;
+use std::thread::Threads;
 
 // The head of a file of one channel at 44100 Hz, with no samples.
 const HEAD: [u8; 44] =
@@ -70,8 +72,9 @@ fn alone(
 }
 
 // How a run with these guessers ends, and what a sink took of it, with a counter of its own.
-fn counted<L: Ledger + Send>(
-    rt: &HostRuntime,
+fn counted<L: Ledger + Send, R: Threads + Wait + Sync>(
+    rt: &R,
+    alloc: Global,
     words: &[&str],
     bytes: &[u8],
     guessers: Vec<Box<dyn Guesser>>,
@@ -81,7 +84,6 @@ fn counted<L: Ledger + Send>(
     requires parts { blank.parts ≡ L.parts }
     requires some { 0 < blank.parts }
 {
-    let alloc = rt.alloc();
     let mut steps: Steps<L> = Steps::start(blank);
     let mut source = MemSource::new(alloc, bytes, 100, &[])?;
     let mut sink = MemSink::new(alloc, 10000, 300, &[])?;
@@ -100,27 +102,28 @@ fn counted<L: Ledger + Send>(
     Ok((status, sink))
 }
 
-fn with_guessers(
-    rt: &HostRuntime,
+fn with_guessers<R: Threads + Wait + Sync>(
+    rt: &R,
+    alloc: Global,
     words: &[&str],
     bytes: &[u8],
     guessers: Vec<Box<dyn Guesser>>,
 ) -> Result<(Status, MemSink), AllocError> {
-    counted::<Brand>(rt, words, bytes, guessers, Blank::new(1))
+    counted::<Brand, R>(rt, alloc, words, bytes, guessers, Blank::new(1))
 }
 
 // The same with the guessers of the program.
-fn with_three(
-    rt: &HostRuntime,
+fn with_three<R: Threads + Wait + Sync>(
+    rt: &R,
+    alloc: Global,
     words: &[&str],
     bytes: &[u8],
 ) -> Result<(Status, MemSink), AllocError> {
-    let alloc = rt.alloc();
     let mut guessers: Vec<Box<dyn Guesser>> = Vec::new(alloc);
     guessers.push(Box::new(alloc, Last::new())?)?;
     guessers.push(Box::new(alloc, Mean::new())?)?;
     guessers.push(Box::new(alloc, Flat::new(0))?)?;
-    with_guessers(rt, words, bytes, guessers)
+    with_guessers(rt, alloc, words, bytes, guessers)
 }
 
 // How many bytes a source of at most 5000 has left.
@@ -633,12 +636,17 @@ fn words_after_the_name(rt: HostRuntime) -> Result<(), Fail> {
 #[test]
 fn workers_change_no_byte(rt: HostRuntime) -> Result<(), Fail> {
     let zero = zeros(rt.alloc(), 1, [0x44, 0xAC], 1)?;
-    let (status, sink) = with_three(&rt, &["encode", "--workers", "2"], zero.as_slice())?;
+    let (status, sink) = with_three(
+        &rt,
+        rt.alloc(),
+        &["encode", "--workers", "2"],
+        zero.as_slice(),
+    )?;
     assert_eq!(rt; status, Status::Ok);
     assert_eq!(rt; sink.bytes(), zero_sample().as_slice());
     let sine = sine_file(rt.alloc())?;
     let words = ["encode", "--rate", "32", "--workers", "2"];
-    let (status, sink) = with_three(&rt, &words, sine.as_slice())?;
+    let (status, sink) = with_three(&rt, rt.alloc(), &words, sine.as_slice())?;
     assert_eq!(rt; status, Status::Ok);
     assert_eq!(rt; sink.bytes(), stream());
     Ok(())
@@ -664,7 +672,7 @@ fn guesses_change_no_byte(rt: HostRuntime) -> Result<(), Fail> {
             "--guess",
             guess,
         ];
-        let (status, sink) = with_three(&rt, &words, &[])?;
+        let (status, sink) = with_three(&rt, rt.alloc(), &words, &[])?;
         assert_eq!(rt; status, Status::Ok);
         assert_eq!(rt; sink.bytes(), demo_line());
     }
@@ -672,7 +680,7 @@ fn guesses_change_no_byte(rt: HostRuntime) -> Result<(), Fail> {
     let mut guessers: Vec<Box<dyn Guesser>> = Vec::new(alloc);
     guessers.push(Box::new(alloc, Flat::new(u32::MAX))?)?;
     let words = ["demo", "100", "7", "--workers", "1", "--ahead", "2"];
-    let (status, sink) = with_guessers(&rt, &words, &[], guessers)?;
+    let (status, sink) = with_guessers(&rt, rt.alloc(), &words, &[], guessers)?;
     assert_eq!(rt; status, Status::Ok);
     assert_eq!(rt; sink.bytes(), demo_line());
     Ok(())
@@ -680,13 +688,13 @@ fn guesses_change_no_byte(rt: HostRuntime) -> Result<(), Fail> {
 
 #[test]
 fn guesses_of_no_guesser(rt: HostRuntime) -> Result<(), Fail> {
-    let (status, _) = with_three(&rt, &["encode", "--guess", "4"], &HEAD)?;
+    let (status, _) = with_three(&rt, rt.alloc(), &["encode", "--guess", "4"], &HEAD)?;
     assert_eq!(rt; status, Status::Usage);
     let words = ["encode", "--workers", "0", "--guess", "4"];
-    let (status, _) = with_three(&rt, &words, &HEAD)?;
+    let (status, _) = with_three(&rt, rt.alloc(), &words, &HEAD)?;
     assert_eq!(rt; status, Status::Ok);
     let none = Vec::new(rt.alloc());
-    let (status, _) = with_guessers(&rt, &["encode", "--guess", "0"], &HEAD, none)?;
+    let (status, _) = with_guessers(&rt, rt.alloc(), &["encode", "--guess", "0"], &HEAD, none)?;
     assert_eq!(rt; status, Status::Usage);
     let (status, sink, notes, _) = alone(&rt, &["encode", "--guess", "4"], &HEAD, 100, &[0])?;
     assert_eq!(rt; status, None);
