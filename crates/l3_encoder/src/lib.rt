@@ -22,3 +22,5 @@ pub use with::encode_with;
 
 #[cfg(test)]
 mod tests;
+#[cfg(test)]
+mod thread_tests;

@@ -190,3 +190,30 @@ fn one_zero_sample_and_faults(rt: HostRuntime) -> Result<(), Fail> {
     }
     Ok(())
 }
+
+// The first 3456 samples were read when the read fails: of the frames that were pushed just the
+// first is given, since no later one's main data can reach into its slot.
+#[test]
+fn failed_read_in_mid_stream_leaves_a_front(rt: HostRuntime) -> Result<(), Fail> {
+    let bytes = zeros(rt.alloc(), &MONO, 8000)?;
+    let (_, whole, _) = encoded::<Brand>(
+        Blank::new(1),
+        rt.alloc(),
+        &bytes,
+        Rate::K128,
+        1000,
+        10000,
+    )?;
+    let (answer, sink, _) = encoded::<Brand>(
+        Blank::new(1),
+        rt.alloc(),
+        &bytes,
+        Rate::K128,
+        76,
+        10000,
+    )?;
+    assert_eq!(rt; answer, Err(EncodeFault::Read));
+    assert_eq!(rt; sink.bytes().len(), 417);
+    assert!(rt; whole.bytes().starts_with(sink.bytes()));
+    Ok(())
+}
