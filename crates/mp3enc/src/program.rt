@@ -1,5 +1,6 @@
 ghost use Rattle.std.specs.Prelude.{◌≡◌, ◌⊎◌, ◌+◌, ◌≤◌, ◌<◌, ◌≢◌, Some, None, IfSome, IfNone, IsSomeAnd, vec_len};
 ghost use Rattle.l3_encoder.specs.Changes.{source_change, sink_change};
+ghost use Rattle.l3_encoder.specs.FileLaws.{FilesAreEncoded};
 ghost use Rattle.mp3enc.specs.Program.{DoesOrLacks, Ends, HasRun, KeepsSource, Leaves, WritesFrames, any_number};
 ghost use Rattle.mp3enc.specs.Promise.{Promise};
 ghost use Rattle.mp3enc.specs.Words.{HasFrames, HasOptions, HasWorkers, any_guess, asked, workers_of};
@@ -11,7 +12,7 @@ use crate::ending::{Ending, tell};
 use crate::status::Status;
 use crate::words::{ANY_GUESS, Command, command_asked};
 use l3_base::Steps;
-use l3_encoder::Gate;
+use l3_encoder::{Gate, files_are_encoded};
 use l3_guess::Guesser;
 use l3_io::{Sink, Source};
 use l3_words::NoCommand;
@@ -197,7 +198,7 @@ pub fn run_alone<S: Source, K: Sink, N: Sink>(
 /// they nor the gate change a byte. Steps are those of the calling thread's own counts.
 ///
 /// What the stream is for the bytes of any file, and that it reads as the chosen frames and in no
-/// other way, is the law of `l3_encoder::files_are_encoded`.
+/// other way, says the clause `encoding`, the law of `l3_encoder::files_are_encoded`.
 pub fn run<S: Source, K: Sink, N: Sink, T: Gate + Sync, L: Ledger + Send, R: Threads + Wait + Sync>(
     rt: &R,
     alloc: Global,
@@ -214,6 +215,11 @@ pub fn run<S: Source, K: Sink, N: Sink, T: Gate + Sync, L: Ledger + Send, R: Thr
         (source_change S.left S.faults source.old source.new) (sink_change K.taken K.faults sink.old sink.new)
         (sink_change N.taken N.faults notes.old notes.new) (λ made. steps.new ≡ steps.old + made) }
     ensures later_steps { steps.old ≤ steps.new }
+
+    // What the stream of a file is: whatever bytes it has, the chosen frames of its samples spell
+    // it and nothing else does, it reads whole as them, and each frame's main data begins at most
+    // 511 bytes before it and within the main data so far.
+    ensures encoding { FilesAreEncoded }
 
     // Whatever the source tells, what `encode` writes is a front of the stream of some frames that
     // fit, at the rate of the words, all of it at success.
@@ -234,6 +240,7 @@ pub fn run<S: Source, K: Sink, N: Sink, T: Gate + Sync, L: Ledger + Send, R: Thr
         (source_change S.left S.faults source.old source.new) (sink_change K.taken K.faults sink.old sink.new)
         (λ made. steps.new ≡ steps.old + made)) result (sink_change N.taken N.faults notes.old notes.new) }
 {
+    files_are_encoded();
     let ending = outcome(rt, alloc, words, source, sink, guessers, gate, steps);
     tell(notes, ending)
 }
