@@ -100,8 +100,9 @@ ExplainsReport rate (Err (Wav why)) source sink =
 ExplainsReport rate (Err Read) source sink = IfSome source.left (λ bytes. TakesFront rate bytes sink)
 ExplainsReport rate (Err Write) source sink = IfSome source.left (λ bytes. IsAccepted bytes × TakesFront rate bytes sink)
 
--- whatever the source tells: the stream of some frames that fit, at this rate, was taken, as many as
--- are told of; after a fault of reading or writing a front of it; and at any other answer nothing
+-- whatever the source tells: the stream of some frames that fit, at this rate, was taken, as many
+-- as are told of; after a fault of reading or writing a front of it; and at any other answer
+-- nothing
 abbrev pub GivesSomeFrames : Rate → Result Report EncodeFault → SinkChange → Type 0
 GivesSomeFrames rate (Ok report) sink = (st : Settings) × (fs : List ChosenFrame) × (st.rate ≡ rate) × FramesFit st 0 0 fs
     × Takes sink.taken sink.taken_now (stream_of st fs) × (report.frames ≡ length fs)

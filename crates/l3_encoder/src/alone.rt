@@ -12,8 +12,8 @@ use l3_wav::Samples;
 use std::alloc::Global;
 use std::sync::ledger::Ledger;
 
-/// Encodes the WAV file of a source at a rate, on one thread: reads granule after granule, and gives
-/// the frames of its stream to a sink as they come.
+/// Encodes the WAV file of a source at a rate, on one thread: reads granule after granule, and
+/// gives the frames of its stream to a sink as they come.
 ///
 /// The stream is that of the chosen frames of the file's samples; it is empty where there are none.
 /// Each count is one step. Memory is taken before the first byte of the stream is written, and none
@@ -30,8 +30,8 @@ pub fn encode_alone<S: Source, K: Sink, L: Ledger + Send>(
         (sink_change K.taken K.faults sink.old sink.new) }
     ensures some_frames { GivesSomeFrames rate result (sink_change K.taken K.faults sink.old sink.new) }
 
-    // Head and data are read, and nothing after them; of a refused head what refuses it; where there
-    // is no memory the head. Where a read or a write failed it may be less.
+    // Head and data are read, and nothing after them; of a refused head what refuses it; where
+    // there is no memory the head. Where a read or a write failed it may be less.
     ensures left { IfSome (S.left source.old) (λ bytes. LeavesInput result bytes (S.left source.new)) }
 
     // Where a read failed the answer is a read fault, where a write failed a write fault, and no

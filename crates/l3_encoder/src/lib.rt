@@ -1,8 +1,8 @@
 //! A WAV file from a source -> its MP3 stream at a sink.
 //!
-//! On one thread, or beside workers that analyse granules ahead: the same bytes.
-//! Before: `l3_wav`, which reads heads; `l3_turns`, which encodes samples as they come; `l3_workers`
-//! and `l3_lanes`, the workers and their board. After: the program.
+//! On one thread, or beside workers that analyse granules ahead: the same bytes. Before: `l3_wav`,
+//! which reads heads; `l3_turns`, which encodes samples as they come; `l3_workers` and `l3_lanes`,
+//! the workers and their board. After: the program.
 #![tactic(auto)]
 
 mod alone;

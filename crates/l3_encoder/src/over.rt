@@ -57,7 +57,8 @@ fn commit_all<S: Source, K: Sink, G: Guesser, B: Board<Item = PieceBox>, T: Gate
 /// and has offered nothing; the desk and the seats were made with the board and are as they began.
 ///
 /// Whatever board, guesser and gate it is, the sink takes what [`encode_turns`] would give it. The
-/// board is shut at every answer, so that the workers end too. Errors are those of [`encode_turns`].
+/// board is shut at every answer, so that the workers end too. Errors are those of
+/// [`encode_turns`].
 ///
 /// [`encode_turns`]: l3_turns::encode_turns
 pub fn encode_over<

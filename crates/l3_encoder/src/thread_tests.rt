@@ -160,8 +160,8 @@ fn encoded_alone<L: Ledger + Send>(
     Ok((answer, sink))
 }
 
-// Counts the jobs of granules 0 to 3, and holds the committer before granule 0 until there were four,
-// or for so many looks.
+// Counts the jobs of granules 0 to 3, and holds the committer before granule 0 until there were
+// four, or for so many looks.
 #[derive(Drop)]
 struct AwaitsFour {
     jobs: AtomicU64,

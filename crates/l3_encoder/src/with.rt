@@ -62,10 +62,10 @@ fn lane_board(
 /// Encodes the WAV file of a source at a rate, with workers that analyse granules ahead of the one
 /// that is committed, over a board without locks: the same bytes as [`encode_alone`] gives.
 ///
-/// At most `lanes.ahead` granules are analysed and not yet committed. The guesser tells a worker which
-/// budget to count for; a wrong guess costs time and changes no byte. The gate is told of each turn.
-/// Steps are those of the committer's own counts. Memory is taken before the first byte of the stream
-/// is written, and none after. Errors are those of [`encode_alone`].
+/// At most `lanes.ahead` granules are analysed and not yet committed. The guesser tells a worker
+/// which budget to count for; a wrong guess costs time and changes no byte. The gate is told of
+/// each turn. Steps are those of the committer's own counts. Memory is taken before the first byte
+/// of the stream is written, and none after. Errors are those of [`encode_alone`].
 ///
 /// [`encode_alone`]: crate::encode_alone
 pub fn encode_with<
