@@ -1,15 +1,13 @@
 -- How an encoding ends, by its answer.
-use Rattle.std.proofs.Common.{◌≡◌, ℕ, ◌+◌, ◌<◌, ◌≤◌, Bool, true, false, List, refl, inl, arith, subst, sym}
-use Rattle.std.specs.Prelude.{Option, Some, None, IfOk, IfSome, IsSomeAnd, Result, Ok, Err}
+use Rattle.std.proofs.Common.{◌≡◌, ℕ, ◌+◌, ◌<◌, ◌≤◌, Bool, true, false, refl, inl, arith}
+use Rattle.std.specs.Prelude.{IfOk, IfSome, Result, Ok, Err}
 use Rattle.std.proofs.lemmas.Option.{IfSome_then}
-use Rattle.l3_io.specs.Taken.{Takes}
 use Rattle.l3_commit.specs.declared.report.Report.{Report}
 use Rattle.l3_commit.specs.declared.report.EncodeFault.{EncodeFault}
 use Rattle.l3_commit.specs.declared.report.EncodeFault.TheVariants as encode_fault
 use Rattle.l3_encoder.specs.Changes.{SourceChange, SinkChange}
-use Rattle.l3_encoder.specs.Encoded.{CountsReads, CountsWrites, ExplainsReport, GivesSomeFrames, IsReport, LeavesInput, encoding_in, rest_in}
+use Rattle.l3_encoder.specs.Encoded.{CountsReads, CountsWrites, ExplainsReport, GivesSomeFrames, LeavesInput}
 use Rattle.l3_words.specs.declared.command.EncodeWords.{EncodeWords}
-use Rattle.mp3enc.specs.declared.ending.Ending.{Ending}
 use Rattle.mp3enc.specs.declared.words.Command.TheVariants.{Encode}
 use Rattle.mp3enc.specs.Program.{Ends, encoded_ending, ending_by}
 use Rattle.mp3enc.specs.Status.{reused_of}

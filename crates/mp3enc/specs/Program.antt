@@ -1,5 +1,5 @@
 -- What an ending says of the input and the output of a command.
-use Rattle.std.specs.Prelude.{◌≡◌, ◌≢◌, ℕ, ◌+◌, ◌≤◌, Bool, true, false, List, [], length, Option, Some, None, Result, Ok, Err, IfSome, IsSomeAnd, ◌⊎◌, ⊤}
+use Rattle.std.specs.Prelude.{◌≡◌, ◌≢◌, ℕ, ◌+◌, Bool, true, false, List, [], Option, Some, None, Result, Ok, Err, IfSome, IsSomeAnd, ◌⊎◌, ⊤}
 use Rattle.l3_io.specs.Causes.{IsSteady, count_after}
 use Rattle.l3_io.specs.Taken.{Takes, TakesPrefix}
 use Rattle.l3_encoder.specs.Changes.{SourceChange, SinkChange}

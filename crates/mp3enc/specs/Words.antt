@@ -1,5 +1,5 @@
 -- What the words of the command line ask for.
-use Rattle.std.specs.Prelude.{◌≡◌, List, ℕ, ◌≤◌, ◌<◌, ⊤, Option, option_map}
+use Rattle.std.specs.Prelude.{List, ℕ, ◌≤◌, ◌<◌, ⊤, Option, option_map}
 use Rattle.std.specs.Borrow.{Bor}
 use Rattle.l3_words.specs.Words.{command_of, texts_of}
 use Rattle.l3_words.specs.declared.command.Command.{Command as Wanted}

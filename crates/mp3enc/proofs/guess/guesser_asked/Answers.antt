@@ -1,4 +1,4 @@
-use Rattle.std.proofs.Common.{◌≡◌, ◌-◌, ◌<◌, arith, length, refl}
+use Rattle.std.proofs.Common.{◌-◌, ◌<◌, arith, length, refl}
 use Rattle.mp3enc.proofs.GuessLemmas.{get_is}
 use Rattle.mp3enc.proofs.guess.guesser_asked.Goals as goal
 

@@ -2,7 +2,6 @@ use Rattle.std.proofs.Common.{ℕ, ◌≡◌, ◌+◌, ap}
 use Rattle.std.specs.Prelude.{vec_len}
 use Rattle.l3_encoder.specs.Changes.{SourceChange, SinkChange, source_change, sink_change}
 use Rattle.mp3enc.proofs.StatusLemmas as lemmas
-use Rattle.mp3enc.specs.Program.{DoesOrLacks}
 use Rattle.mp3enc.specs.Words.{asked}
 use Rattle.mp3enc.proofs.program.run.Goals as goal
 use Rattle.mp3enc.proofs.program.run.Goals.{After-tell}
