@@ -41,12 +41,7 @@ fn sample(samples: &[i16; 2304], place: u64) -> i16 {
 }
 
 // A granule's piece of these samples, transformed.
-fn piece_of(
-    settings: Settings,
-    number: GranuleNo,
-    left: &[i16; 2304],
-    right: &[i16; 2304],
-) -> Piece
+fn piece_of(settings: Settings, number: GranuleNo, left: &[i16; 2304], right: &[i16; 2304]) -> Piece
     ensures number { result.number ≡ number }
     ensures stage { result.stage ≡ Transformed }
     ensures settings { result.settings ≡ settings }
