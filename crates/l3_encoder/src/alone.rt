@@ -35,7 +35,7 @@ pub fn encode_alone<S: Source, K: Sink, L: Ledger + Send>(
     ensures left { IfSome (S.left source.old) (λ bytes. LeavesInput result bytes (S.left source.new)) }
 
     // Where a read failed the answer is a read fault, where a write failed a write fault, and no
-    // other call of source or sink follows.
+    // second call fails. That none follows is tested, not promised.
     ensures reads { CountsReads result (source_change S.left S.faults source.old source.new) }
     ensures writes { CountsWrites result (sink_change K.taken K.faults sink.old sink.new) }
     ensures later { S.faults source.old ≤ S.faults source.new }

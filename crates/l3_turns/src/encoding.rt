@@ -27,7 +27,7 @@ pub enum TurnFault {
 ///
 /// Where the source tells its bytes, the sink takes the encoding of the samples that the committer
 /// stands for, whichever they are. Errors: a read failed, or a write failed or took nothing; each
-/// with a front of it taken, and as the last act.
+/// with a front of it taken. That no call follows is tested, not promised.
 pub fn encode_turns<S: Source, K: Sink, L: Ledger + Send>(
     settings: Settings,
     committer: &mut Committer,

@@ -60,8 +60,8 @@ fn take_next<G: Guesser, B: Board<Item = PieceBox>, T: Gate>(
 /// has offered nothing.
 ///
 /// Whatever the board hands out, the sink takes the same bytes. The board is not shut. Errors: a
-/// read failed, or a write failed or took nothing; each with a front of the encoding taken, and as
-/// the last act.
+/// read failed, or a write failed or took nothing; each with a front of the encoding taken. That no
+/// call follows is tested, not promised.
 pub fn encode_on_board<
     S: Source,
     K: Sink,
