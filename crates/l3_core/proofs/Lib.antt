@@ -1,4 +1,5 @@
 pub mod BalanceLemmas
+pub mod CallLemmas
 pub mod CellLemmas
 pub mod FlowLemmas
 pub mod LeastLemmas

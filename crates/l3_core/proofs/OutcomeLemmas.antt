@@ -31,7 +31,8 @@ module _ {T : Type 0} (number : T → ℕ) where
   placed : (board : BoardState T) (x y : T) (b : Bool) → b ≡ false → (o : Option (Content T)) → o ≡ Some (Empty y) → (Placed y, with_cell board (number x) (Offered x)) ≡ (if b then (Busy x, board) else offer_at number board x o)
   placed board x y b unshut o e = rw (unshut, e) refl
 
-  offer_one : (before after : BoardState T) (x : T) (a : Offer T) → Step number before (event.Offer x) (answer.Offer a) after → (a, after) ≡ offer_outcome number before x
+  -- an offer has one outcome
+  pub offer_one : (before after : BoardState T) (x : T) (a : Offer T) → Step number before (event.Offer x) (answer.Offer a) after → (a, after) ≡ offer_outcome number before x
   offer_one before after x (Placed y) s = rw s.2 (placed before x y before.shut s.0 (cell_of before (number x)) s.1)
   offer_one before after x (Busy y) s = rw (s.1, s.2) (busy before x before.shut refl (cell_of before (number x)) refl s.0)
 
@@ -45,7 +46,8 @@ module _ {T : Type 0} (number : T → ℕ) where
   stray board x (Some (Withdrawn i)) e claimed withdrawn =
       elim (eqb_tells i (number x)) [ inl p ↦ absurd (withdrawn (rw e (ap (λ j. Some (state.Withdrawn j)) p.1))) | inr p ↦ rw p.0 refl ]
 
-  deposit_one : (before after : BoardState T) (x : T) (a : Deposit T) → Step number before (event.Deposit x) (answer.Deposit a) after → (a, after) ≡ deposit_outcome number before x
+  -- a deposit has one outcome
+  pub deposit_one : (before after : BoardState T) (x : T) (a : Deposit T) → Step number before (event.Deposit x) (answer.Deposit a) after → (a, after) ≡ deposit_outcome number before x
   deposit_one before after x Kept s = rw (s.1, s.0, eq-eqb (number x) (number x) refl) refl
   deposit_one before after x Late s = rw (s.1, s.0, eq-eqb (number x) (number x) refl) refl
   deposit_one before after x (Stray y) s = rw (s.2, s.3) (stray before x (cell_of before (number x)) refl s.0 s.1)
@@ -61,7 +63,8 @@ module _ {T : Type 0} (number : T → ℕ) where
       elim (eqb_tells (number y) i) [ inl p ↦ absurd (ready (rw e (ap (λ j. Some (state.Ready j)) p.1))) | inr p ↦ rw p.0 refl ]
   not_offered board i spare (Some (Withdrawn j)) e ready offered claimed = refl
 
-  take_one : (before after : BoardState T) (i : ℕ) (spare : T) (a : Take T) → Step number before (event.Take i spare) (answer.Take a) after → (a, after) ≡ take_outcome number before i spare
+  -- a take has one outcome
+  pub take_one : (before after : BoardState T) (i : ℕ) (spare : T) (a : Take T) → Step number before (event.Take i spare) (answer.Take a) after → (a, after) ≡ take_outcome number before i spare
   take_one before after i spare (Got x) s = rw (s.2, s.0, eq-eqb (number x) i s.1) refl
   take_one before after i spare (Revoked x) s = rw (s.2, s.0, eq-eqb (number x) i s.1) refl
   take_one before after i spare (InWork y) s = rw (s.1, s.2, s.0, eq-eqb i i refl) refl

@@ -1,4 +1,4 @@
-use Rattle.std.proofs.Common.{◌≡◌, length, vec_len, vec_capacity}
+use Rattle.std.proofs.Common.{◌≡◌, ◌++◌, length, vec_len, vec_capacity}
 use Rattle.l3_core.specs.Machine.{Run}
 use Rattle.l3_core.specs.Replies.{replies, state_after}
 use Rattle.l3_core.proofs.board.Core.run.Given as goal
@@ -12,4 +12,5 @@ invariant-loop-event g l =
       run : Run number l.fn.self l.yielded l.answers.items l.self;
       count : vec_len l.answers ≡ length l.yielded;
       room : vec_capacity l.answers ≡ vec_capacity l.fn.answers;
+      rest : l.yielded ++ l.event-iterator.rest.items ≡ l.fn.events.items;
     }
