@@ -2,6 +2,7 @@ use Rattle.std.proofs.Common.{◌≡◌, ◌+◌, ◌*◌, ◌<◌, ◌≤◌, f
 use Rattle.l3_windows.specs.Holding.{WindowsView, GoesOn}
 use Rattle.l3_windows.proofs.HoldLemmas.{goes-on-by}
 use Rattle.l3_windows.proofs.ReadLemmas.{reads-behind, stands, stands-right}
+use Rattle.l3_windows.proofs.SoundLemmas.{sound-failed, sound-read}
 use Rattle.l3_windows.proofs.at_hand.Windows.read_some.Goals as goal
 
 pub returns-clause-content : goal.returns-clause-content
@@ -28,3 +29,22 @@ returns-clause-content g c =
     (goes-on-by old new (left c.args.source.now) (left c.read_block.new.source) c.in_ok-count.count is_short refl refl refl refl going near
     (reads-behind k w.channels c.in_ok-count.count is_short w.samples c.read_block.new.samples (left c.args.source.now) (left c.read_block.new.source) w.left.items c.read_block.new.left.items w.right.items c.read_block.new.right.items
     (stands w.left.items k (length (drop k w.left.items)) refl some) (stands-right w.channels w.left.items w.right.items k c.self.invariant.right_long some) c.in_ok-count.ensures.content))
+
+pub invariant_of-self : goal.invariant_of-self
+invariant_of-self g c =
+    let w = c.self.inside in
+    let going : w.ended ≡ false = subst (λ (v : WindowsView). v.ended ≡ false) (sym c.self.view_is) c.requires.going in
+    sound-failed w.channels w.ahead w.base w.read w.ended w.samples c.read_block.new.samples w.left.items c.read_block.new.left.items w.right.items c.read_block.new.right.items w.stale _ _ _ _
+    c.self.invariant going c.read_block.ensures.left_capacity c.read_block.ensures.right_capacity c.in_err-count.ensures.failed c.in_err-count.ensures.kept.0 c.in_err-count.ensures.kept.1
+
+pub invariant_of-self-2 : goal.invariant_of-self-2
+invariant_of-self-2 g c =
+    let w = c.self.inside in
+    let going : w.ended ≡ false = subst (λ (v : WindowsView). v.ended ≡ false) (sym c.self.view_is) c.requires.going in
+    let fine : w.samples.failed ≡ false = subst (λ (v : WindowsView). v.samples.failed ≡ false) (sym c.self.view_is) c.requires.sound in
+    let told = c.in_ok-count.ensures in
+    let near : c.args.end ≤ 576 * (w.base + w.ahead + 1) = subst (λ (v : WindowsView). c.args.end ≤ 576 * (v.base + v.ahead + 1)) (sym c.self.view_is) c.requires.near in
+    let some : w.read < c.args.end = subst (λ (v : WindowsView). v.read < c.args.end) (sym c.self.view_is) c.requires.some in
+    let few : w.read + c.in_ok-count.count ≤ 576 * (w.base + w.ahead + 1) = omega (arith, near, some, told.bound) in
+    sound-read w.channels w.ahead w.base w.read w.ended w.samples c.read_block.new.samples w.left.items c.read_block.new.left.items w.right.items c.read_block.new.right.items w.stale _ _ _ _
+    c.self.invariant going c.read_block.ensures.left_capacity c.read_block.ensures.right_capacity c.in_ok-count.count c.min-room.result few fine told.state.0 told.declared told.ended told.left_long told.right_long
