@@ -8,3 +8,4 @@ pub mod ColumnSlots
 pub mod SharedSlots
 pub mod Pairing
 pub mod PairSums
+pub mod WrappedSums

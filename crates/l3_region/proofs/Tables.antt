@@ -1,39 +1,61 @@
 -- The tables of lanes, by tests that compute.
-use Rattle.std.proofs.Common.{◌≡◌, ℕ, zero, suc, ◌+◌, ◌*◌, ◌-◌, ◌<◌, ◌≤◌, true, [], length, get_or, cond, eqb, ltb, leb, refl, sym, ap, ◌∙◌, arith, inl, inr, ◌⊎◌}
+use Rattle.std.proofs.Common.{◌≡◌, ℕ, zero, suc, ◌+◌, ◌*◌, ◌-◌, ◌<◌, ◌≤◌, true, List, [], length, get_or, cond, eqb, ltb, leb, refl, sym, ap, ◌∙◌, arith, inl, inr, ◌⊎◌}
 use Rattle.std.proofs.lemmas.Bool.{agree_below, agree_below_at, eqb-true, ltb-true, leb-true, cases_lt, le-leb, lt-leb}
 use Rattle.l3_huff.specs.Tables.{IsTable, is_table, greatest_of, linbits_at, width_at}
 use Rattle.l3_region.specs.declared.rows.TheConstants.{ROWS}
 use Rattle.l3_region.specs.declared.long.TheConstants.{LONG}
-use Rattle.std.specs.Prelude.{max}
+use Rattle.std.specs.List.{list_all}
+use Rattle.std.specs.Prelude.{max, slice_index}
+use Rattle.l3_region.proofs.AllPass.{true_all}
 use Rattle.l3_region.specs.Lanes.{lane_table, lane_class, bound_at, extra_of, lane_of, mask_at, row_at, short_at}
 
 -- ---- rows
 
+-- the bits in a lane from what is kept of a pair
+row_of : List ℕ → ℕ → ℕ
+row_of row k = lane_of (slice_index row) k
+
+-- each row is tested once, as it comes: the list is walked and no place is looked up
+rows_small : list_all (λ row. agree_below (λ k. leb (row_of row k) 32) (λ _. true) 24) ROWS ≡ true
+unfolding row_of lane_of extra_of lane_class
+rows_small = refl
+
 pub row_small : (place k : ℕ) → place < 256 → k < 24 → row_at place k ≤ 32
-unfolding row_at lane_of extra_of lane_class short_at
+unfolding row_at short_at row_of
 row_small place k a b =
     leb-true _ _ (agree_below_at (λ j. leb (row_at place j) 32) (λ _. true) 24 k
-    (agree_below_at (λ p. agree_below (λ j. leb (row_at p j) 32) (λ _. true) 24) (λ _. true) 256 place refl a) b)
+    (true_all (λ row. agree_below (λ j. leb (row_of row j) 32) (λ _. true) 24) ROWS rows_small place [] a) b)
+
+rows_zero : list_all (λ row. eqb (row_of row 0) 0) ROWS ≡ true
+unfolding row_of lane_of extra_of lane_class
+rows_zero = refl
 
 -- table 0 has no bits
 pub row_zero : (place : ℕ) → place < 256 → row_at place 0 ≡ 0
-unfolding row_at lane_of extra_of lane_class short_at
-row_zero place a = eqb-true _ _ (agree_below_at (λ p. eqb (row_at p 0) 0) (λ _. true) 256 place refl a)
+unfolding row_at short_at row_of
+row_zero place a = eqb-true _ _ (true_all (λ row. eqb (row_of row 0) 0) ROWS rows_zero place [] a)
+
+rows_rise : list_all (λ row. agree_below (λ i. leb (row_of row (i + 12)) (row_of row (i + 13))) (λ _. true) 11) ROWS ≡ true
+unfolding row_of lane_of extra_of lane_class
+rows_rise = refl
 
 -- in the lanes of tables with linbits a pair takes no fewer bits from lane to lane
 pub row_rises : (place k : ℕ) → place < 256 → 12 ≤ k → k < 23 → row_at place k ≤ row_at place (k + 1)
-unfolding row_at lane_of extra_of lane_class short_at
+unfolding row_at short_at row_of
 row_rises place k a from to =
     let j = k - 12 in
     let back : j + 12 ≡ k = omega arith in
     let tested : row_at place (j + 12) ≤ row_at place (j + 13) =
     leb-true _ _ (agree_below_at (λ i. leb (row_at place (i + 12)) (row_at place (i + 13))) (λ _. true) 11 j
-    (agree_below_at (λ p. agree_below (λ i. leb (row_at p (i + 12)) (row_at p (i + 13))) (λ _. true) 11) (λ _. true) 256 place refl a) (omega arith)) in
+    (true_all (λ row. agree_below (λ i. leb (row_of row (i + 12)) (row_of row (i + 13))) (λ _. true) 11) ROWS rows_rise place [] a) (omega arith)) in
     let next : j + 13 ≡ k + 1 = omega arith in
     omega (arith, tested, ap (row_at place) back, ap (row_at place) next)
 
+rows_long : list_all (λ row. eqb (length row) 16) ROWS ≡ true
+rows_long = refl
+
 pub row_long : (place : ℕ) → place < 256 → length (get_or ROWS place []) ≡ 16
-row_long place a = eqb-true _ _ (agree_below_at (λ p. eqb (length (get_or ROWS p [])) 16) (λ _. true) 256 place refl a)
+row_long place a = eqb-true _ _ (true_all (λ row. eqb (length row) 16) ROWS rows_long place [] a)
 
 -- what is kept of a pair in lanes 12 and 13, in one number
 pub long_value : (place : ℕ) → place < 256 → get_or LONG place 0 ≡ short_at place 12 + 65536 * short_at place 13
@@ -43,12 +65,15 @@ long_value place a = eqb-true _ _ (agree_below_at (λ p. eqb (get_or LONG p 0) (
 pub long_small : (place : ℕ) → place < 256 → get_or LONG place 0 ≤ 131086
 long_small place a = leb-true _ _ (agree_below_at (λ p. leb (get_or LONG p 0) 131086) (λ _. true) 256 place refl a)
 
+rows_short : list_all (λ row. agree_below (λ t. leb (slice_index row t) 14) (λ _. true) 16) ROWS ≡ true
+rows_short = refl
+
 -- what is kept of a pair is at most 14, and of values of 15 there are at most two
 pub short_small : (place t : ℕ) → place < 256 → t < 16 → short_at place t ≤ 14
 unfolding short_at
 short_small place t a b =
     leb-true _ _ (agree_below_at (λ j. leb (short_at place j) 14) (λ _. true) 16 t
-    (agree_below_at (λ p. agree_below (λ j. leb (short_at p j) 14) (λ _. true) 16) (λ _. true) 256 place refl a) b)
+    (true_all (λ row. agree_below (λ j. leb (slice_index row j) 14) (λ _. true) 16) ROWS rows_short place [] a) b)
 
 -- ---- the linbits beyond those of table 24
 

@@ -1,8 +1,9 @@
 -- Values and samples are numbers of 16 bits.
 use Rattle.std.proofs.Common.{◌≡◌, ◌∙◌, sym, ℕ, suc, ◌+◌, ◌*◌, ◌<◌, ◌≤◌, List, [], ◌∷◌, ◌++◌, ℤ, get_or, length, take, All, FitsSigned, w16, arith}
-use Rattle.std.proofs.lemmas.List.{append-nil, take_all}
+use Rattle.std.proofs.lemmas.List.{append-nil, take-append-le, take_all}
 use Rattle.std.proofs.lemmas.List.Elements.{All-nil, All-cons, All-head, All-tail, All-same, All-append}
 use Rattle.std.proofs.Math.Facts.{sfits_to_z}
+use Rattle.std.proofs.Math.Seq.{take-length}
 use borrow.Rule.Slice.PartMut.{put_mid}
 use Rattle.l3_io.proofs.ReadLemmas.{take-put_mid-add}
 use Rattle.l3_base.specs.declared.rate.Channels.{Channels}
@@ -28,6 +29,10 @@ decoded_fit n out (a ∷ rest) bytes long most is small = absurd (omega (arith, 
 -- some were added behind those before
 pub added_fit : (before now more : List ℤ) → now ≡ before ++ more → All (FitsSigned w16) before → All (FitsSigned w16) more → All (FitsSigned w16) now
 added_fit before now more is first last = All-same (FitsSigned w16) _ _ is (All-append (FitsSigned w16) before more first last)
+
+-- the values that were written in front
+pub front_fits : (count : ℕ) (values rest : List ℤ) → length values ≡ count → All (FitsSigned w16) values → All (FitsSigned w16) (take count (values ++ rest))
+front_fits count values rest long fit = All-same (FitsSigned w16) _ _ (rw (← long) (take-append-le (length values) values rest (omega arith) ∙ take-length values)) fit
 
 -- a block was read after the values so far
 pub block_fits : (count k w : ℕ) (buffer block : List ℤ) → count ≤ length buffer → k ≤ length block →

@@ -1,11 +1,12 @@
 -- Values of bytes, block by block.
 use Rattle.std.proofs.Common.{◌≡◌, ◌∙◌, sym, ap, refl, ℕ, zero, suc, ◌+◌, ◌-◌, ◌*◌, ◌/◌, ◌%◌, ◌<◌, ◌≤◌, Bool, true, false, List, [], ◌∷◌, ◌++◌, ℤ, length, take, drop, arith, inl, inr, ◌⊎◌, min, nat_lt, nat_eq, length-append, length-take-le, length-drop}
-use Rattle.std.specs.Prelude.{Option, Some, None, IfSome, Result, Ok, Err, OnErr}
+use Rattle.std.specs.Prelude.{Option, Some, None, IfSome, Result, Ok, Err, OnErr, if◌then◌else◌}
 use Rattle.std.proofs.lemmas.List.{length-take, take-take, drop-take, drop-drop, take-append-le, append-nil}
 use Rattle.std.proofs.lemmas.Bool.{cases_lt, lt-ltb, le-ltb, eqb-true, eqb-false}
 use Rattle.std.proofs.Math.Seq.{take-add, drop-length, drop-append_seam, take-length}
 use Rattle.std.specs.Io.KnownBytes.{Consumes, IsAtEnd}
 use borrow.Rule.Slice.PartMut.{put_mid}
+use Rattle.l3_io.specs.Causes.{HasCause, count_after}
 use Rattle.l3_io.proofs.ReadLemmas.{take-put_mid-add, Consumes-then}
 use Rattle.l3_base.specs.declared.rate.Channels.{Channels}
 use Rattle.l3_base.specs.declared.rate.Channels.TheVariants.{Mono, Stereo}
@@ -53,6 +54,24 @@ whole_bytes-values Stereo m = omega arith
 pub whole_values : (channels : Channels) (m : ℕ) → (m / block_align channels * channels_of channels) % channels_of channels ≡ 0
 whole_values Mono m = omega arith
 whole_values Stereo m = omega arith
+
+-- the values of so many bytes, counted by the number of channels, are no more than the bytes
+pub counted-most : (channels : Channels) (number there : ℕ) → number ≡ channels_of channels → 2 * (there / (2 * number) * number) ≤ there
+counted-most channels number there is = rw (is, whole_bytes-values channels there) (whole_bytes-most channels there)
+
+-- and they are of whole samples
+pub counted-whole : (channels : Channels) (number there : ℕ) → number ≡ channels_of channels → (there / (2 * number) * number) % channels_of channels ≡ 0
+counted-whole channels number there is = rw is (whole_values channels there)
+
+-- where all wanted bytes were there, they are the whole samples of these
+pub counted-all : (channels : Channels) (number there want : ℕ) → number ≡ channels_of channels → nat_eq there want ≡ true →
+    2 * (there / (2 * number) * number) ≡ whole_bytes channels want
+counted-all channels number there want is all = rw (is, eqb-true there want all) (whole_bytes-values channels want)
+
+-- and else they are less than was wanted
+pub counted-less : (channels : Channels) (number there want : ℕ) → number ≡ channels_of channels → there ≤ want → nat_eq there want ≡ false →
+    2 * (there / (2 * number) * number) < want
+counted-less channels number there want is most less = omega (arith, counted-most channels number there is, eqb-false there want less)
 
 -- n values, of whole samples, are within the whole samples
 pub whole_bytes-least : (channels : Channels) (n m : ℕ) → n % channels_of channels ≡ 0 → 2 * n ≤ m → 2 * n ≤ whole_bytes channels m
@@ -281,3 +300,30 @@ gone_in_two old mid new n m most first second low =
 pub OnErr-always : {T E : Type 0} (result : Result T E) (P : Type 0) → P → OnErr result P
 OnErr-always (Ok v) P p = tt
 OnErr-always (Err e) P p = p
+
+-- a fault after steps that had none is that of the last step
+pub fault_caused : {T U E : Type 0} (before mid now : ℕ) (result : Result T E) (step : Result U E) (fault : E) → result ≡ Err fault → step ≡ Err fault →
+    mid ≡ before → HasCause mid now step → HasCause before now result
+fault_caused before mid now result step fault is was same cause =
+    let last : HasCause mid now (Err fault) = rw was at cause in
+    let later : before ≤ now = omega (arith, same, last.later) in
+    let failed : now ≡ count_after before = rw same at last.failed in
+    rw is (record { later = later; failed = failed; served = tt })
+
+-- a step that serves after steps that had no fault
+pub served_on : {T U E : Type 0} (before mid now : ℕ) (value : T) (step : U) → mid ≡ before → HasCause {T = U} {E = E} mid now (Ok step) → HasCause {T = T} {E = E} before now (Ok value)
+served_on before mid now value step same cause =
+    let served : now ≡ mid = cause.served in
+    record { later = omega (arith, same, served); failed = tt; served = served ∙ same }
+
+-- where all declared bytes were taken, or there is room left, nothing remains
+pub none_remains : (n wanted declared : ℕ) → (wanted ≤ n → declared ≤ 2 * n) → 0 ≡ (if nat_lt n wanted then 0 else declared - 2 * n)
+none_remains n wanted declared all = elim (cases_lt n wanted) [
+  | inl short ↦ rw (lt-ltb n wanted short) refl
+  | inr full ↦ let low : declared ≤ 2 * n = all full in rw (le-ltb n wanted full) (omega arith)
+]
+
+-- a block that is written back leaves the buffer as long as it was
+pub put_mid-long : (count : ℕ) (buffer block : List ℤ) → count ≤ length buffer → length block ≡ length buffer - count →
+    length (put_mid count (length buffer - count) buffer block) ≡ length buffer
+put_mid-long count buffer block low same = simp (length-append, length-take, length-drop) (omega (arith, same))

@@ -2,3 +2,4 @@ mod GoneLemmas
 mod HoldLemmas
 mod ReadLemmas
 mod WindowLemmas
+mod SoundLemmas

@@ -80,18 +80,39 @@ fn with_argument<'a>(parser: Command<'a>, argument: Arg<'a>) -> Result<Command<'
     parser.arg(argument)
 }
 
+// One more option with one value and a default.
+fn with_number<'a>(
+    alloc: Global,
+    parser: Command<'a>,
+    name: &'a str,
+    values: ValueParser<'a>,
+    default: &'a str,
+) -> Result<Command<'a>, AllocError>
+    ensures { IfOk result (λ p. app_of p ≡ with_rule (app_of parser.entry) (number_rule name.entry.now values.entry default.entry.now)) }
+{
+    with_argument(parser, number_option(alloc, name, values, default))
+}
+
+// One more number that has to be there, by its place among the words.
+fn with_place<'a>(
+    alloc: Global,
+    parser: Command<'a>,
+    name: &'a str,
+    values: ValueParser<'a>,
+) -> Result<Command<'a>, AllocError>
+    ensures { IfOk result (λ p. app_of p ≡ with_rule (app_of parser.entry) (place_rule name.entry.now values.entry)) }
+{
+    with_argument(parser, place(alloc, name, values))
+}
+
 // The four options of an encoder, behind those that are there.
 fn with_encoder_options<'a>(alloc: Global, parser: Command<'a>) -> Result<Command<'a>, AllocError>
     ensures { IfOk result (λ p. app_of p ≡ with_options (app_of parser.entry)) }
 {
-    let rate = number_option(alloc, "rate", wide(0, 4294967295), "128");
-    let workers = number_option(alloc, "workers", narrow(0, 16), "4");
-    let ahead = number_option(alloc, "ahead", narrow(1, 64), "16");
-    let guess = number_option(alloc, "guess", narrow(0, 255), "1");
-    let parser = with_argument(parser, rate)?;
-    let parser = with_argument(parser, workers)?;
-    let parser = with_argument(parser, ahead)?;
-    with_argument(parser, guess)
+    let parser = with_number(alloc, parser, "rate", wide(0, 4294967295), "128")?;
+    let parser = with_number(alloc, parser, "workers", narrow(0, 16), "4")?;
+    let parser = with_number(alloc, parser, "ahead", narrow(1, 64), "16")?;
+    with_number(alloc, parser, "guess", narrow(0, 255), "1")
 }
 
 /// The parser of `encode`.
@@ -113,9 +134,7 @@ pub fn check_parser<'a>(alloc: Global) -> Command<'a>
 pub fn demo_parser<'a>(alloc: Global) -> Result<Command<'a>, AllocError>
     ensures { IfOk result (λ p. app_of p ≡ demo_app) }
 {
-    let frames = place(alloc, "FRAMES", wide(1, 100000));
-    let seed = place(alloc, "SEED", wide(0, 4294967295));
-    let parser = with_argument(bare_parser(alloc, "demo"), frames)?;
-    let parser = with_argument(parser, seed)?;
+    let parser = with_place(alloc, bare_parser(alloc, "demo"), "FRAMES", wide(1, 100000))?;
+    let parser = with_place(alloc, parser, "SEED", wide(0, 4294967295))?;
     with_encoder_options(alloc, parser)
 }

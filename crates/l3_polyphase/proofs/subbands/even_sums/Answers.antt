@@ -1,27 +1,21 @@
-use Rattle.std.proofs.Common.{◌≡◌, ◌≤◌, ◌^◌, ◌-◌, ◌+ℤ◌, ◌-ℤ◌, pos, to_z, of_z, w64, arith, ◌∙◌}
+use Rattle.std.proofs.Common.{◌^◌, ◌-◌, pos, arith, ◌∙◌}
 use Rattle.std.proofs.Math.ListN.{length-set}
-use Rattle.std.proofs.lemmas.Int.{ints}
-use Rattle.std.specs.Prelude.{unsigned_abs}
 use Rattle.l3_tables.specs.Lists.{entry}
-use Rattle.l3_polyphase.specs.Fold.{part_sum}
 use Rattle.l3_polyphase.proofs.BothEnds.{filled_both, from_both}
 use Rattle.l3_polyphase.proofs.HalvingLaw.{IsEvenSum, even_low, even_high}
+use Rattle.l3_polyphase.proofs.WrappedSums.{added, taken}
 use Rattle.l3_polyphase.proofs.subbands.even_sums.Goals as goal
 
 pub loop-i-preserved : goal.loop-i-preserved
 loop-i-preserved c =
-    let first_is : entry c.fourth_sums-fourth.result c.loop-i.i ≡ part_sum 0 4 8 (entry c.args.columns.now) c.loop-i.i = c.fourth_sums-fourth.ensures.value c.loop-i.i c.loop-i-test.true in
-    let first_small : unsigned_abs (entry c.fourth_sums-fourth.result c.loop-i.i) ≤ 2 ^ 54 = c.fourth_sums-fourth.ensures.small c.loop-i.i c.loop-i-test.true in
-    let sum : to_z w64 (of_z w64 (to_z w64 (of_z w64 (entry c.fourth_sums-fourth.result c.loop-i.i)) +ℤ to_z w64 (of_z w64 c.part-second.result))) ≡ (entry c.fourth_sums-fourth.result c.loop-i.i) +ℤ c.part-second.result = omega (arith, ints) in
-    let difference : to_z w64 (of_z w64 (to_z w64 (of_z w64 (entry c.fourth_sums-fourth.result c.loop-i.i)) -ℤ to_z w64 (of_z w64 c.part-second.result))) ≡ (entry c.fourth_sums-fourth.result c.loop-i.i) -ℤ c.part-second.result = omega (arith, ints) in
-    let low : (entry c.fourth_sums-fourth.result c.loop-i.i) +ℤ c.part-second.result ≡ part_sum 0 2 16 (entry c.args.columns.now) c.loop-i.i = omega (arith, ints, even_low (entry c.args.columns.now) c.loop-i.i) in
-    let high : (entry c.fourth_sums-fourth.result c.loop-i.i) -ℤ c.part-second.result ≡ part_sum 0 2 16 (entry c.args.columns.now) (15 - c.loop-i.i) = omega (arith, ints, even_high (entry c.args.columns.now) c.loop-i.i c.loop-i-test.true) in
-    let low_small : unsigned_abs ((entry c.fourth_sums-fourth.result c.loop-i.i) +ℤ c.part-second.result) ≤ 2 ^ 55 = omega (arith, ints) in
-    let high_small : unsigned_abs ((entry c.fourth_sums-fourth.result c.loop-i.i) -ℤ c.part-second.result) ≤ 2 ^ 55 = omega (arith, ints) in
+    let low = added (entry c.fourth_sums-fourth.result c.loop-i.i) c.part-second.result _ _ _ (2 ^ 54) (2 ^ 54) (c.fourth_sums-fourth.ensures.small c.loop-i.i c.loop-i-test.true) c.part-second.ensures.bound (omega arith) (omega arith)
+    (c.fourth_sums-fourth.ensures.value c.loop-i.i c.loop-i-test.true) c.part-second.ensures.value (even_low (entry c.args.columns.now) c.loop-i.i) in
+    let high = taken (entry c.fourth_sums-fourth.result c.loop-i.i) c.part-second.result _ _ _ (2 ^ 54) (2 ^ 54) (c.fourth_sums-fourth.ensures.small c.loop-i.i c.loop-i-test.true) c.part-second.ensures.bound (omega arith) (omega arith)
+    (c.fourth_sums-fourth.ensures.value c.loop-i.i c.loop-i-test.true) c.part-second.ensures.value (even_high (entry c.args.columns.now) c.loop-i.i c.loop-i-test.true) in
     record {
       long = length-set _ (15 - c.loop-i.i) _ ∙ (length-set c.loop-i.sums c.loop-i.i _ ∙ c.loop-i.invariant.long);
       both = filled_both (IsEvenSum (entry c.args.columns.now)) 15 c.loop-i.sums c.loop-i.i _ _ (pos 0) c.loop-i.invariant.long (omega arith) c.loop-i.invariant.both
-          (sum ∙ low, rw sum low_small) (difference ∙ high, rw difference high_small);
+          low high;
     }
 
 pub returns-clause-value : goal.returns-clause-value

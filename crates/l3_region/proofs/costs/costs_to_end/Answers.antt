@@ -24,6 +24,42 @@ long_is sums from to class result low high few many is a b x y =
 within : (long least own result : ℕ) → own ≡ long → own ≤ 9216 → result ≡ min long least → result ≤ 9216
 within long least own result is small less = omega arith
 
+pub with_lane-first-requires : goal.with_lane-first-requires
+with_lane-first-requires c = record { lane = omega arith; kept = c.requires.kept; within = c.requires.within; most = c.requires.most }
+
+pub with_lane-second-requires : goal.with_lane-second-requires
+with_lane-second-requires c = record { lane = omega arith; kept = c.requires.kept; within = c.requires.within; most = c.requires.most }
+
+pub with_lane-third-requires : goal.with_lane-third-requires
+with_lane-third-requires c = record { lane = omega arith; kept = c.requires.kept; within = c.requires.within; most = c.requires.most }
+
+pub with_lane-fourth-requires : goal.with_lane-fourth-requires
+with_lane-fourth-requires c = record { lane = omega arith; kept = c.requires.kept; within = c.requires.within; most = c.requires.most }
+
+pub with_lane-fifth-requires : goal.with_lane-fifth-requires
+with_lane-fifth-requires c = record { lane = omega arith; kept = c.requires.kept; within = c.requires.within; most = c.requires.most }
+
+pub with_lane-sixth-requires : goal.with_lane-sixth-requires
+with_lane-sixth-requires c = record { lane = omega arith; kept = c.requires.kept; within = c.requires.within; most = c.requires.most }
+
+pub with_lane-seventh-requires : goal.with_lane-seventh-requires
+with_lane-seventh-requires c = record { lane = omega arith; kept = c.requires.kept; within = c.requires.within; most = c.requires.most }
+
+pub with_lane-eighth-requires : goal.with_lane-eighth-requires
+with_lane-eighth-requires c = record { lane = omega arith; kept = c.requires.kept; within = c.requires.within; most = c.requires.most }
+
+pub with_lane-ninth-requires : goal.with_lane-ninth-requires
+with_lane-ninth-requires c = record { lane = omega arith; kept = c.requires.kept; within = c.requires.within; most = c.requires.most }
+
+pub with_lane-tenth-requires : goal.with_lane-tenth-requires
+with_lane-tenth-requires c = record { lane = omega arith; kept = c.requires.kept; within = c.requires.within; most = c.requires.most }
+
+pub with_lane-eleventh-requires : goal.with_lane-eleventh-requires
+with_lane-eleventh-requires c = record { lane = omega arith; kept = c.requires.kept; within = c.requires.within; most = c.requires.most }
+
+pub with_lane-requires : goal.with_lane-requires
+with_lane-requires c = record { lane = omega arith; kept = c.requires.kept; within = c.requires.within; most = c.requires.most }
+
 pub returns-clause-values : goal.returns-clause-values
 unfolding cost_between
 returns-clause-values c = λ j lt.

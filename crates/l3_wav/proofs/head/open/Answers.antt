@@ -1,11 +1,11 @@
-use Rattle.std.proofs.Common.{◌≡◌, ◌-◌, length, true, false, arith, rules}
+use Rattle.std.proofs.Common.{◌≡◌, ◌-◌, length, true, false, arith, rules, le_trans}
 use Rattle.std.specs.Prelude.{Err}
 use Rattle.std.proofs.lemmas.Result.{on_err_weaker}
 use Rattle.l3_io.specs.Causes.{Rose}
 use Rattle.l3_wav.specs.declared.fault.WavFault.TheVariants.{NotRiff, Read}
 use Rattle.l3_wav.specs.Wav.{file_of, is_riff, head_limit}
-use Rattle.l3_wav.proofs.SampleLemmas.{gone_in_two}
-use Rattle.l3_wav.proofs.BodyLemmas.{gone-passed, FaultCause-as, FaultCause-rose}
+use Rattle.l3_wav.proofs.SampleLemmas.{gone_in_two, OnErr-always}
+use Rattle.l3_wav.proofs.BodyLemmas.{gone-passed, gone-within, FaultCause-as, FaultCause-rose}
 use Rattle.l3_wav.proofs.ChunkLemmas.{fault_told}
 use Rattle.l3_wav.proofs.OpenLemmas.{riff_ends, not_riff, riff_chunks, own_fault, open_told, open_rest, open_refused, open_lost}
 use Rattle.l3_wav.proofs.head.open.Goals as goal
@@ -95,3 +95,46 @@ returns-clause-lost g c = λ _.
     let riff : is_riff c.fill.new.buf ≡ true = search rules in
     open_lost (left c.args.source.now) (left c.read_chunks.new.source) c.read_chunks.result
     (riff_chunks (left c.args.source.now) (left c.fill.new.source) (left c.read_chunks.new.source) c.fill.new.buf c.read_chunks.result long c.in_ok-fill.ensures.front c.in_ok-fill.ensures.passed riff c.read_chunks.ensures.told)
+
+pub returns-in_err-fill-clause-some : goal.returns-in_err-fill-clause-some
+returns-in_err-fill-clause-some g c =
+    let left = g.S.Source.left in
+    let long : length c.fill.new.buf ≡ 12 = search rules in
+    OnErr-always c.from_residual.result _ (gone-within (left c.args.source.now) (left c.fill.new.source) (length c.fill.new.buf) 1048584 (omega (arith, long)) c.in_err-fill.ensures.some)
+
+pub returns-in_err-fill-clause-later : goal.returns-in_err-fill-clause-later
+returns-in_err-fill-clause-later g c = c.fill.ensures.later
+
+pub returns-in_err-fill-clause-cause : goal.returns-in_err-fill-clause-cause
+returns-in_err-fill-clause-cause g c =
+    FaultCause-as (g.S.Source.faults c.args.source.now) (g.S.Source.faults c.fill.new.source) c.from_residual.result c.in_err-fill.field-0.0 (search rules) c.in_err-fill.ensures.cause
+
+pub returns-in_err-fill-clause-read : goal.returns-in_err-fill-clause-read
+returns-in_err-fill-clause-read g c =
+    FaultCause-rose (g.S.Source.faults c.args.source.now) (g.S.Source.faults c.fill.new.source) c.from_residual.result
+    (FaultCause-as (g.S.Source.faults c.args.source.now) (g.S.Source.faults c.fill.new.source) c.from_residual.result c.in_err-fill.field-0.0 (search rules) c.in_err-fill.ensures.cause)
+
+pub returns-then-not-is_riff-clause-some : goal.returns-then-not-is_riff-clause-some
+returns-then-not-is_riff-clause-some g c =
+    let left = g.S.Source.left in
+    let long : length c.fill.new.buf ≡ 12 = search rules in
+    gone-within (left c.args.source.now) (left c.fill.new.source) (length c.fill.new.buf) 1048584 (omega (arith, long))
+    (gone-passed (left c.args.source.now) (left c.fill.new.source) (length c.fill.new.buf) c.in_ok-fill.ensures.passed)
+
+pub returns-then-not-is_riff-clause-later : goal.returns-then-not-is_riff-clause-later
+returns-then-not-is_riff-clause-later g c = c.fill.ensures.later
+
+pub returns-then-not-is_riff-clause-cause : goal.returns-then-not-is_riff-clause-cause
+returns-then-not-is_riff-clause-cause g c = c.in_ok-fill.ensures.served
+
+pub returns-clause-later : goal.returns-clause-later
+returns-clause-later g c = le_trans c.fill.ensures.later c.read_chunks.ensures.later
+
+pub returns-clause-read : goal.returns-clause-read
+returns-clause-read g c = FaultCause-rose _ _ c.read_chunks.result (rw c.in_ok-fill.ensures.served at c.read_chunks.ensures.cause)
+
+pub returns-clause-served : goal.returns-clause-served
+returns-clause-served g c = rw c.in_ok-fill.ensures.served at c.read_chunks.ensures.served
+
+pub returns-clause-cause : goal.returns-clause-cause
+returns-clause-cause g c = rw c.in_ok-fill.ensures.served at c.read_chunks.ensures.cause

@@ -1,7 +1,8 @@
-use Rattle.std.proofs.Common.{◌≡◌, ◌-◌, ◌*◌, ◌⊎◌, inl, inr, true, false, length, arith, rules}
+use Rattle.std.proofs.Common.{◌≡◌, ◌≤◌, ◌+◌, ◌-◌, ◌*◌, ◌⊎◌, inl, inr, true, false, length, arith, rules}
+use Rattle.std.proofs.lemmas.Bool.{le-ltb}
 use Rattle.std.proofs.lemmas.Option.{IfSome_then}
 use Rattle.l3_wav.proofs.RangeLemmas.{block_fits}
-use Rattle.l3_wav.proofs.SampleLemmas.{whole_sum, block_whole, reads_full, reads_ended, has_more, gone_in_two, OnErr-always}
+use Rattle.l3_wav.proofs.SampleLemmas.{whole_sum, block_whole, reads_full, reads_ended, has_more, gone_in_two, OnErr-always, fault_caused, none_remains, put_mid-long, served_on}
 use Rattle.l3_wav.proofs.samples.read_values.Goals as goal
 use Rattle.l3_wav.proofs.samples.read_values.Goals.{then-not-block-via-then-not-block, then-not-block-via-else-not-block+then-want-remaining}
 
@@ -49,3 +50,55 @@ returns-clause-content g c =
     let left = g.S.Source.left in
     IfSome_then (left c.args.source.now) c.loop-count.invariant.content
     (λ bytes has. reads_full c.args.channels c.args.declared bytes c.loop-count.count c.loop-count.out (left c.loop-count.source) has (search rules) c.loop-count.invariant.samples (omega arith))
+
+pub returns-in_err-block-clause-cause : goal.returns-in_err-block-clause-cause
+returns-in_err-block-clause-cause g c =
+    let faults = g.S.Source.faults in
+    fault_caused (faults c.args.source.now) (faults c.loop-count.source) (faults c.read_block.new.source) c.from_residual.result c.read_block.result c.in_err-block.field-0.0 (search rules) c.in_err-block.was c.loop-count.invariant.steady c.read_block.ensures.cause
+
+pub returns-then-not-block-clause-declared : goal.returns-then-not-block-clause-declared
+returns-then-not-block-clause-declared g c = omega (arith, c.in_ok-block.ensures.bound)
+
+pub returns-then-not-block-clause-samples : goal.returns-then-not-block-clause-samples
+returns-then-not-block-clause-samples g c = whole_sum c.args.channels c.loop-count.count c.in_ok-block.block.count c.loop-count.invariant.samples c.in_ok-block.ensures.samples
+
+pub returns-then-not-block-clause-cause : goal.returns-then-not-block-clause-cause
+returns-then-not-block-clause-cause g c =
+    let faults = g.S.Source.faults in
+    served_on (faults c.args.source.now) (faults c.loop-count.source) (faults c.read_block.new.source) _ _ c.loop-count.invariant.steady c.in_ok-block.ensures.cause
+
+pub returns-clause-range : goal.returns-clause-range
+returns-clause-range g c = c.loop-count.invariant.range
+
+pub returns-clause-bound : goal.returns-clause-bound
+returns-clause-bound g c = c.loop-count.invariant.room
+
+pub returns-clause-declared : goal.returns-clause-declared
+returns-clause-declared g c = omega arith
+
+pub returns-clause-samples : goal.returns-clause-samples
+returns-clause-samples g c = c.loop-count.invariant.samples
+
+pub returns-clause-remaining : goal.returns-clause-remaining
+returns-clause-remaining g c =
+    let full : length c.loop-count.out ≤ c.loop-count.count = omega arith in
+    rw (le-ltb c.loop-count.count (length c.loop-count.out) full) (omega arith)
+
+pub returns-clause-cause : goal.returns-clause-cause
+returns-clause-cause g c =
+    let steady = c.loop-count.invariant.steady in
+    record { later = omega (arith, steady); failed = tt; served = steady }
+
+pub returns-then-not-block-clause-bound : goal.returns-then-not-block-clause-bound
+returns-then-not-block-clause-bound g c =
+    let long = put_mid-long c.loop-count.count c.loop-count.out c.read_block.new.out (search rules) (search rules) in
+    rw long (omega (arith, c.in_ok-block.ensures.bound))
+
+pub returns-then-not-block-clause-remaining : goal.returns-then-not-block-clause-remaining
+returns-then-not-block-clause-remaining g c =
+    let long = put_mid-long c.loop-count.count c.loop-count.out c.read_block.new.out (search rules) (search rules) in
+    rw long (none_remains (c.loop-count.count + c.in_ok-block.block.count) (length c.loop-count.out) c.args.declared
+    (λ full. elim c.then-not-block.branch [
+      | then-not-block-via-then-not-block w ↦ absurd (omega (arith, c.in_ok-block.ensures.short (search rules)))
+      | then-not-block-via-else-not-block+then-want-remaining w ↦ omega (arith, c.in_ok-block.ensures.bound)
+    ]))

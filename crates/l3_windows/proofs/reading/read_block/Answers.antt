@@ -1,7 +1,8 @@
-use Rattle.std.proofs.Common.{◌≡◌, ◌*◌, length, rules}
+use Rattle.std.proofs.Common.{◌≡◌, ◌∙◌, ◌*◌, ap, length, rules}
 use Rattle.l3_base.specs.Rates.{channels_of}
+use Rattle.l3_wav.specs.Samples.{SamplesState}
 use Rattle.l3_windows.proofs.GoneLemmas.{block-gone}
-use Rattle.l3_windows.proofs.ReadLemmas.{block-told, block-left, block-right}
+use Rattle.l3_windows.proofs.ReadLemmas.{block-told, block-left, block-right, block-count, block-declared, block-ended}
 use Rattle.l3_windows.proofs.reading.read_block.Goals as goal
 
 pub returns-clause-content : goal.returns-clause-content
@@ -30,3 +31,28 @@ returns-clause-gone g c =
     let left = g.S.Source.left in
     let read = c.in_ok-there.ensures in
     block-gone c.args.samples.now c.next.new.self c.in_ok-there.there c.next.new.out (left c.args.source.now) (left c.next.new.source) read.content read.state read.declared
+
+pub returns-clause-cause : goal.returns-clause-cause
+returns-clause-cause g c = record { later = c.in_ok-there.ensures.cause.later; failed = tt; served = c.in_ok-there.ensures.cause.served }
+
+pub returns-clause-state : goal.returns-clause-state
+returns-clause-state g c =
+    let after = c.in_ok-there.ensures.state in
+    (ap (λ (s : SamplesState). s.channels) after ∙ c.requires.channels, ap (λ (s : SamplesState). s.failed) after)
+
+pub returns-clause-bound : goal.returns-clause-bound
+returns-clause-bound g c =
+    let long : length c.next.new.out ≡ c.args.room * c.from-number.result = search rules in
+    block-count c.args.channels c.from-number.result c.in_ok-there.there c.args.room (c.from-number.ensures ∙ c.number.ensures) (rw long at c.in_ok-there.ensures.bound)
+
+pub returns-clause-declared : goal.returns-clause-declared
+returns-clause-declared g c =
+    let read = c.in_ok-there.ensures in
+    block-declared c.args.channels c.from-number.result c.in_ok-there.there _ c.args.samples.now c.next.new.self (c.from-number.ensures ∙ c.number.ensures) read.state read.declared
+
+pub returns-clause-ended : goal.returns-clause-ended
+returns-clause-ended g c =
+    let read = c.in_ok-there.ensures in
+    let long : length c.next.new.out ≡ c.args.room * c.from-number.result = search rules in
+    let whole = rw c.requires.channels at read.samples in
+    block-ended c.args.channels c.from-number.result c.in_ok-there.there c.args.room c.args.samples.now c.next.new.self c.next.new.out (c.from-number.ensures ∙ c.number.ensures) read.state long whole

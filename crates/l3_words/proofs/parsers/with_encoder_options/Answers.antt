@@ -1,19 +1,23 @@
-use Rattle.std.proofs.Common.{◌≡◌, ◌∙◌, ap, ap₂, codes, pos}
+use Rattle.std.proofs.Common.{◌≡◌, ◌∙◌, refl, ap, ap₂}
 use Rattle.std.proofs.lemmas.Result.{IfOk-weaker}
-use Rattle.clap.specs.Words.{rule_of, with_rule}
-use Rattle.clap.specs.declared.builder.value_parser.ValueParser.TheVariants.{Signed}
+use Rattle.clap.specs.Words.{App, Text, with_rule}
+use Rattle.clap.specs.declared.builder.value_parser.ValueParser.{ValueParser}
 use Rattle.l3_words.specs.Words.{number_rule}
 use Rattle.l3_words.proofs.parsers.with_encoder_options.Goals as goal
 
+-- one more option, behind the same ones and of the same values
+same_option : (before now after : App) (values wanted : ValueParser) (name default : Text) → before ≡ now → values ≡ wanted →
+    after ≡ with_rule before (number_rule name values default) → after ≡ with_rule now (number_rule name wanted default)
+same_option before now after values wanted name default was are is = is ∙ ap₂ with_rule was (ap (λ v. number_rule name v default) are)
+
 pub returns : goal.returns
 returns c =
-    let rate : rule_of c.number_option-rate.result ≡ number_rule (codes "rate") (Signed (pos 0) (pos 4294967295)) (codes "128") = rw c.wide.ensures at c.number_option-rate.ensures.rule in
-    let workers : rule_of c.number_option-workers.result ≡ number_rule (codes "workers") (Signed (pos 0) (pos 16)) (codes "4") = rw c.narrow.ensures at c.number_option-workers.ensures.rule in
-    let ahead : rule_of c.number_option-ahead.result ≡ number_rule (codes "ahead") (Signed (pos 1) (pos 64)) (codes "16") = rw c.narrow-2.ensures at c.number_option-ahead.ensures.rule in
-    let guess : rule_of c.number_option-guess.result ≡ number_rule (codes "guess") (Signed (pos 0) (pos 255)) (codes "1") = rw c.narrow-3.ensures at c.number_option-guess.ensures.rule in
-    IfOk-weaker c.with_argument-4.result _ _ (λ m h. h
-    ∙ ap₂ with_rule (c.in_ok-parser-3.ensures
-    ∙ ap₂ with_rule (c.in_ok-parser-2.ensures
-    ∙ ap₂ with_rule (c.in_ok-parser.ensures
-    ∙ ap (with_rule _) rate) workers) ahead) guess)
-    c.with_argument-4.ensures
+    IfOk-weaker c.with_number-4.result _ _
+    (λ m h. same_option _ _ _ _ _ _ _
+    (same_option _ _ _ _ _ _ _
+    (same_option _ _ _ _ _ _ _
+    (same_option _ _ _ _ _ _ _ refl c.wide.ensures c.in_ok-parser.ensures)
+    c.narrow.ensures c.in_ok-parser-2.ensures)
+    c.narrow-2.ensures c.in_ok-parser-3.ensures)
+    c.narrow-3.ensures h)
+    c.with_number-4.ensures
