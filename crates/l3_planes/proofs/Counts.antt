@@ -4,8 +4,8 @@ use Rattle.std.proofs.lemmas.Bool.{cases_lt}
 use Rattle.std.proofs.lemmas.Int.{ints}
 use Rattle.l3_quant.specs.Quantiser.{magnitude_at}
 use Rattle.l3_planes.specs.Planes.{key_at}
-use Rattle.l3_planes.specs.Rows.{IsStored, AreRows, line_at}
-use Rattle.l3_planes.specs.Marks.{cut_at}
+use Rattle.l3_planes.specs.Rows.{IsStored, AreRows, line_at, size_at}
+use Rattle.l3_planes.specs.Marks.{cut_at, AreCounted}
 use Rattle.std.specs.Prelude.{replicate, unsigned_abs}
 
 -- two lists that are filled by index
@@ -61,6 +61,10 @@ counted_all c k h x row top least below room is key lower low under before =
       | inr le ↦ le
     ] in
     omega (arith, before)
+
+-- the number of values that are counted, by another name
+pub counted_as : (lines : List ℤ) (steps : ℕ → ℕ) (block k n : ℕ) (counts : List ℕ) → k ≡ n → AreCounted lines steps block k counts → AreCounted lines steps block n counts
+counted_as lines steps block k n counts e counted j lt = counted j lt ∙ ap (min (magnitude_at (size_at lines (line_at (32 * block + j))) (steps (line_at (32 * block + j))))) e
 
 -- no counts yet
 pub zero_counts : (xs : List ℕ) (j : ℕ) → xs ≡ replicate 32 0 → get_or xs j 0 ≡ 0

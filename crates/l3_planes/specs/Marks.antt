@@ -35,6 +35,11 @@ IsMark steps mark = (line : ℕ) → mark ≡ pos (key_at (steps line)) -ℤ pos
 abbrev pub cut_at : List ℤ → (ℕ → ℕ) → ℕ → ℕ
 cut_at lines steps i = min (magnitude_at (size_at lines i) (steps i)) 15
 
+-- how many of the first k values are reached in each cell of a block
+abbrev pub AreCounted : List ℤ → (ℕ → ℕ) → ℕ → ℕ → List ℕ → Type 0
+AreCounted lines steps block k counts = (j : ℕ) → j < 32 →
+    slice_index counts j ≡ min (magnitude_at (size_at lines (line_at (32 * block + j))) (steps (line_at (32 * block + j)))) k
+
 -- the pairs of whole numbers, each by its place: 16 times the first and the second, cut at 15
 abbrev pub ArePacked : List ℤ → List ℕ → Type 0
 ArePacked q pairs = (i : ℕ) → i < 288 →

@@ -1,6 +1,6 @@
 ghost use Rattle.std.specs.Prelude.{◌≡◌, ℕ, List, ℤ, ◌+◌, ◌*◌, ◌<◌, ◌≤◌, ◌<ℤ◌, ◌≤ℤ◌, length, min, pos, replicate, slice_index, slice_index_or};
 ghost use Rattle.l3_planes.specs.Rows.{line_at, AreRows, AreTops};
-ghost use Rattle.l3_planes.specs.Marks.{cut_at, AreMarks, IsMark};
+ghost use Rattle.l3_planes.specs.Marks.{cut_at, AreCounted, AreMarks, IsMark};
 
 // No counts yet.
 #[inline(always)]
@@ -59,8 +59,48 @@ fn with_row_above(counts: &[u8; 32], rows: &[i8; 8640], row: usize, mark: i8) ->
     more
 }
 
-// The values of a block's cells, cut at 15. Rows from the first on that no plane of the block
-// reaches are left out.
+// The counts of a block's cells with one plane more of each.
+#[inline(always)]
+fn with_plane(
+    counts: &[u8; 32],
+    rows: &[i8; 8640],
+    block: usize,
+    k: usize,
+    marks: &[i8; 576],
+) -> [u8; 32]
+    requires block { block < 18 }
+    requires plane { k < 15 }
+    requires few { (j : ℕ) → j < 32 → slice_index counts.now j ≤ k }
+    ensures long { length result ≡ 32 }
+    ensures few { (j : ℕ) → j < 32 → slice_index result j ≤ k + 1 }
+    ensures value { (lines : List ℤ) (steps : ℕ → ℕ) (least : ℤ) → AreRows lines rows.now → AreMarks steps marks.now least →
+        AreCounted lines steps block k counts.now → AreCounted lines steps block (k + 1) result }
+{
+    with_row(counts, rows, 15 * block + k, marks, block)
+}
+
+// The same where all cells have one mark.
+#[inline(always)]
+fn with_plane_above(
+    counts: &[u8; 32],
+    rows: &[i8; 8640],
+    block: usize,
+    k: usize,
+    mark: i8,
+) -> [u8; 32]
+    requires block { block < 18 }
+    requires plane { k < 15 }
+    requires few { (j : ℕ) → j < 32 → slice_index counts.now j ≤ k }
+    ensures long { length result ≡ 32 }
+    ensures few { (j : ℕ) → j < 32 → slice_index result j ≤ k + 1 }
+    ensures value { (lines : List ℤ) (steps : ℕ → ℕ) → AreRows lines rows.now → IsMark steps mark →
+        AreCounted lines steps block k counts.now → AreCounted lines steps block (k + 1) result }
+{
+    with_row_above(counts, rows, 15 * block + k, mark)
+}
+
+// The values of a block's cells, cut at 15. Rows are counted in threes, up to those that no plane
+// of the block reaches.
 #[inline(always)]
 fn count_block(
     rows: &[i8; 8640],
@@ -76,11 +116,14 @@ fn count_block(
     ensures bound { (j : ℕ) → j < 32 → slice_index result j ≤ 15 }
 {
     let mut counts = no_counts();
-    for k in 0..15 {
+    for three in 0..5usize {
+        let k = 3 * three;
         if tops[15 * block + k] <= least {
             return counts;
         }
-        counts = with_row(&counts, rows, 15 * block + k, marks, block);
+        let one = with_plane(&counts, rows, block, k, marks);
+        let two = with_plane(&one, rows, block, k + 1, marks);
+        counts = with_plane(&two, rows, block, k + 2, marks);
     }
     counts
 }
@@ -95,11 +138,14 @@ fn count_block_above(rows: &[i8; 8640], tops: &[i8; 270], block: usize, mark: i8
     ensures bound { (j : ℕ) → j < 32 → slice_index result j ≤ 15 }
 {
     let mut counts = no_counts();
-    for k in 0..15 {
+    for three in 0..5usize {
+        let k = 3 * three;
         if tops[15 * block + k] <= mark {
             return counts;
         }
-        counts = with_row_above(&counts, rows, 15 * block + k, mark);
+        let one = with_plane_above(&counts, rows, block, k, mark);
+        let two = with_plane_above(&one, rows, block, k + 1, mark);
+        counts = with_plane_above(&two, rows, block, k + 2, mark);
     }
     counts
 }

@@ -1,13 +1,11 @@
-use Rattle.std.proofs.Common.{◌≡◌, ℕ, List, ℤ, ◌<◌, ◌≤◌, ◌*◌, ◌+◌, min, get_or, length}
-use Rattle.l3_quant.specs.Quantiser.{magnitude_at}
-use Rattle.l3_planes.specs.Rows.{line_at, size_at, AreRows}
-use Rattle.l3_planes.specs.Marks.{AreMarks}
+use Rattle.std.proofs.Common.{◌≡◌, ℕ, List, ℤ, ◌<◌, ◌≤◌, ◌*◌, get_or, length}
+use Rattle.l3_planes.specs.Rows.{AreRows}
+use Rattle.l3_planes.specs.Marks.{AreCounted, AreMarks}
 use Rattle.l3_planes.proofs.count.count_block.Given as goal
 
-abbrev pub invariant-loop-k : goal.invariant-loop-k
-invariant-loop-k l = record {
+abbrev pub invariant-loop-three : goal.invariant-loop-three
+invariant-loop-three l = record {
   long : length l.counts ≡ 32;
-  value : (lines : List ℤ) (steps : ℕ → ℕ) → AreRows lines l.rows → AreMarks steps l.marks l.least → (j : ℕ) → j < 32 →
-      get_or l.counts j 0 ≡ min (magnitude_at (size_at lines (line_at (32 * l.block + j))) (steps (line_at (32 * l.block + j)))) l.k;
-  bound : (j : ℕ) → j < 32 → get_or l.counts j 0 ≤ l.k;
+  value : (lines : List ℤ) (steps : ℕ → ℕ) → AreRows lines l.rows → AreMarks steps l.marks l.least → AreCounted lines steps l.block (3 * l.three) l.counts;
+  bound : (j : ℕ) → j < 32 → get_or l.counts j 0 ≤ 3 * l.three;
 }
