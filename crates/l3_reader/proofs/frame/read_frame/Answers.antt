@@ -3,7 +3,11 @@ use Rattle.std.specs.Prelude.{All}
 use Rattle.std.proofs.lemmas.List.{length-take-le, length-drop}
 use Rattle.std.proofs.lemmas.List.Elements.{All-from_get_or}
 use Rattle.l3_base.specs.declared.settings.Settings.{Settings}
+use Rattle.l3_base.specs.declared.rate.Channels.{Channels}
+use Rattle.l3_base.specs.declared.rate.Channels.TheVariants.{Mono, Stereo}
+use Rattle.l3_base.specs.Rates.{head_bytes_of}
 use Rattle.l3_base.specs.Lengths.{slot_bytes_of, frame_bytes_of}
+use Rattle.l3_stream.specs.Side.{side_bytes}
 use Rattle.l3_stream.specs.declared.fault.StreamFault.{StreamFault}
 use Rattle.l3_stream.specs.declared.unit.Unit.{Unit}
 use Rattle.l3_stream.specs.declared.unit.ChosenFrame.{ChosenFrame}
@@ -283,3 +287,36 @@ read_main-requires-clause-number c = c.in-Some.ensures.found.number
 
 pub read_main-requires-clause-fields : goal.read_main-requires-clause-fields
 read_main-requires-clause-fields c = c.in-Some.ensures.found.fields
+
+-- the front of a frame is its header and its side information
+slot-within : (long slot whole head : ℕ) → slot ≡ whole - head → 60 ≤ slot → long ≡ whole → slot ≤ long
+slot-within long slot whole head is some size = omega (arith, is, size)
+
+header-within : (ch : Channels) (long slot whole : ℕ) → slot ≡ whole - head_bytes_of ch → 60 ≤ slot → long ≡ whole → 4 ≤ long - slot
+header-within Mono long slot whole is some size = omega (arith, is, size)
+header-within Stereo long slot whole is some size = omega (arith, is, size)
+
+side-count : (ch : Channels) (long slot whole : ℕ) → slot ≡ whole - head_bytes_of ch → 60 ≤ slot → long ≡ whole → long - slot - 4 ≡ side_bytes ch
+side-count Mono long slot whole is some size = omega (arith, is, size)
+side-count Stereo long slot whole is some size = omega (arith, is, size)
+
+part-count : (bytes : List ℕ) (slot : ℕ) → length (take (length bytes - slot - 4) (drop 4 bytes)) ≡ length bytes - slot - 4
+part-count bytes slot = length-take-le (length bytes - slot - 4) (drop 4 bytes) (omega (arith, length-drop 4 bytes))
+
+pub overflow_sub-head_bytes : goal.overflow_sub-head_bytes
+overflow_sub-head_bytes c = slot-within (length c.args.bytes.now) c.slot_bytes-slot_bytes.result
+    (frame_bytes_of c.args.settings.now c.args.tape.now.number)
+    (head_bytes_of c.args.settings.now.channels) c.slot_bytes-slot_bytes.ensures.value
+    c.slot_bytes-slot_bytes.ensures.range.0 c.requires.size
+
+pub slice_bounds-read_side-count : goal.slice_bounds-read_side-count
+slice_bounds-read_side-count c = header-within c.args.settings.now.channels
+    (length c.args.bytes.now) c.slot_bytes-slot_bytes.result
+    (frame_bytes_of c.args.settings.now c.args.tape.now.number)
+    c.slot_bytes-slot_bytes.ensures.value c.slot_bytes-slot_bytes.ensures.range.0 c.requires.size
+
+pub read_side-requires : goal.read_side-requires
+read_side-requires c = part-count c.args.bytes.now c.slot_bytes-slot_bytes.result
+    ∙ side-count c.args.settings.now.channels (length c.args.bytes.now)
+    c.slot_bytes-slot_bytes.result (frame_bytes_of c.args.settings.now c.args.tape.now.number)
+    c.slot_bytes-slot_bytes.ensures.value c.slot_bytes-slot_bytes.ensures.range.0 c.requires.size
