@@ -10,3 +10,4 @@ pub mod Standings
 pub mod Encodings
 pub mod Rests
 pub mod Offering
+pub mod Fits

@@ -1,5 +1,5 @@
 -- What the units of a granule take of its piece, and what the piece has then.
-use Rattle.std.proofs.Common.{◌≡◌, ◌∙◌, sym, ap, subst, refl, ℕ, zero, suc, ◌+◌, ◌-◌, ◌≤◌, List, [], ◌∷◌, slice_set, slice_index_or, arith}
+use Rattle.std.proofs.Common.{◌≡◌, ◌∙◌, sym, ap, subst, refl, ℕ, zero, suc, ◌+◌, ◌-◌, ◌^◌, ◌<◌, ◌≤◌, List, [], ◌∷◌, slice_set, slice_index_or, arith}
 use Rattle.std.specs.Prelude.{ℤ, pos, Some}
 use Rattle.l3_base.specs.Amp.{no_amp}
 use Rattle.l3_base.specs.declared.settings.Settings.{Settings}
@@ -13,14 +13,14 @@ use Rattle.l3_reservoir.specs.Budget.{budget_of, left_by}
 use Rattle.l3_tables.specs.Bands.{band_edges}
 use Rattle.l3_quant.specs.Quantiser.{quantised_lines}
 use Rattle.l3_quant.specs.Gains.{first_gain_of}
-use Rattle.l3_count.specs.Count.{Counted}
+use Rattle.l3_count.specs.Count.{Counted, count_of}
 use Rattle.l3_count.specs.Memo.{LaneView, empty_memo, empty_lane, lane_of, no_counts}
 use Rattle.l3_count.proofs.Memos.{lane_of-empty}
 use Rattle.l3_search.specs.Gain.{HasLaneTo, lacking, picked, picked_gain, tried_of}
 use Rattle.l3_search.proofs.Lacking.{empty_lacks_tried, lacks_at_most_tried}
 use Rattle.l3_stream.specs.declared.unit.Unit.{Unit}
 use Rattle.l3_analysis.specs.Piece.{PieceView, HasSpectra, IsChannel, counts_in, edges_in, memo_in, no_memos, spectrum_in, with_memo}
-use Rattle.l3_commit.specs.Units.{unit_of, unit_within}
+use Rattle.l3_commit.specs.Units.{IsCountIn, unit_of, unit_within}
 use Rattle.l3_commit.specs.Choice.{budget_at, after_unit}
 use Rattle.l3_commit.specs.Tried.{unit_tried, granule_tried_by, granule_tried}
 use Rattle.l3_commit.specs.Lacking.{HasUnitCounted, IsCommitted, granule_lacking, reserve_before, unit_gain, unit_lacking}
@@ -137,6 +137,35 @@ pub second-taken : (st : Settings) (n reserve : ℕ) (v w : PieceView) (memo : L
     → IsTaken st n reserve (spectrum_in w 1) u after tried → IsTaken st n reserve (spectrum_in v 1) u after tried
 second-taken st n reserve v w memo u after tried is taken =
     subst (λ (lines : List ℤ). IsTaken st n reserve lines u after tried) (spectrum-of v w 0 memo 1 is) taken
+
+-- what spending asks: the bits of a count within a budget are covered as the budget is
+pub within-covered : (bits count budget most : ℕ) → bits ≡ count → count ≤ budget → budget ≤ most → bits ≤ most
+within-covered bits count budget most is le covered = omega (arith, is)
+
+-- and the reserve has room for a unit's share
+pub has-room : (reserve mean : ℕ) → reserve < 2 ^ 40 → mean ≤ 500000000 → reserve + mean < 2 ^ 64
+has-room reserve mean below small = omega arith
+
+-- a channel of a piece is one of the piece with another memo
+pub channel-kept : (v w : PieceView) (at : ℕ) (memo : List LaneView) (channel : ℕ) → w ≡ with_memo v at memo → IsChannel v channel → IsChannel w channel
+channel-kept v w at memo channel is there = subst (λ (p : PieceView). IsChannel p channel) (sym is) there
+
+-- what is picked is a count of the spectrum
+pub picked-count : (edges : List ℕ) (lines spec : List ℤ) (budget : ℕ) (count : Counted) → spec ≡ lines → picked edges no_amp lines budget ≡ Some count
+    → count.gain ≡ picked_gain edges no_amp lines budget → IsCountIn spec count
+picked-count edges lines spec budget count own picks gain =
+    let at : count_of edges no_amp lines count.gain ≡ Some count = ap (λ (k : ℕ). count_of edges no_amp lines k) gain ∙ picks in
+    (edges, subst (λ (xs : List ℤ). count_of edges no_amp xs count.gain ≡ Some count) (sym own) at)
+
+-- the number of gains that are tried, as the code finds it
+pub tried-by : (tried gain_read gain first_read first : ℕ) → tried ≡ gain_read + 1 - first_read → gain_read ≡ gain → first_read ≡ first → tried ≡ gain + 1 - first
+tried-by tried gain_read gain first_read first is gains firsts = is ∙ (ap (λ k. k + 1 - first_read) gains ∙ ap (λ k. gain + 1 - k) firsts)
+
+pub few-tried : (tried gain_read gain first : ℕ) → tried ≡ gain_read + 1 - first → gain_read ≡ gain → gain < 256 → tried ≤ 256
+few-tried tried gain_read gain first is gains below = omega (arith, is, gains)
+
+pub one-more-fits : (gain_read gain : ℕ) → gain_read ≡ gain → gain < 256 → gain_read + 1 < 2 ^ 32
+one-more-fits gain_read gain is below = omega (arith, is)
 
 same-but-memos : (v w : PieceView) (at : ℕ) (memo : List LaneView) → w ≡ with_memo v at memo → w ≡ record v { memos = w.memos }
 same-but-memos v w at memo is =

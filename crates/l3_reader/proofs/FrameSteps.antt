@@ -278,3 +278,7 @@ pub frame_made : (f : ChosenFrame) (begin : ℕ) (units : List (List Unit)) → 
     → f.units ≡ units → record { begin = begin; units = units } ≡ f
 frame_made f begin units a b = ap (λ n. frame_with n units) (sym a)
     ∙ ap (λ us. frame_with f.begin us) (sym b)
+
+-- the number of a frame that is read is one that its lengths are known for
+pub small-number : (n : ℕ) → n < 2 ^ 24 → n ≤ 2 ^ 32
+small-number n below = omega arith

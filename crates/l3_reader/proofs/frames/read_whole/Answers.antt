@@ -1,5 +1,5 @@
-use Rattle.std.proofs.Common.{◌≡◌, ◌-◌, ◌++◌, ◌<◌, ℕ, subst, length, take, true, false, Err, sym, ap, ◌∙◌, arith, rules}
-use Rattle.std.proofs.lemmas.List.{length-replicate, take_at, length-append}
+use Rattle.std.proofs.Common.{◌≡◌, ◌-◌, ◌++◌, ◌<◌, ◌≤◌, ℕ, List, subst, length, take, true, false, Err, sym, ap, ◌∙◌, arith, rules}
+use Rattle.std.proofs.lemmas.List.{length-replicate, length-take, take_at, length-append}
 use Rattle.std.specs.Prelude.{IfSome}
 use Rattle.l3_base.specs.declared.settings.Settings.{Settings}
 use Rattle.l3_base.specs.Lengths.{frame_bytes_of}
@@ -12,6 +12,7 @@ use Rattle.l3_reader.specs.Steps.{KeepsTape, tape_place}
 use Rattle.l3_reader.specs.InTurn.{LeavesBehind}
 use Rattle.l3_reader.proofs.Own.{within_not_memory, within_not_read}
 use Rattle.l3_reader.proofs.LeftSteps.{told_leaves_header, told_leaves_some, told_leaves_nothing, told_leaves_whole}
+use Rattle.l3_reader.proofs.FrameSteps.{small-number}
 use Rattle.l3_reader.proofs.WholeSteps.{refused, at_refused, other_fault, told_bad_header, told_short, told_whole, told_rest, buffer_whole, buffer_room, refused_by, told_fault_of}
 use Rattle.l3_reader.proofs.frames.read_whole.Goals as goal
 
@@ -229,3 +230,38 @@ pub returns-in_err-frame-clause-still : goal.returns-in_err-frame-clause-still
 returns-in_err-frame-clause-still g c = at_refused c.from_residual-in_err-frame.result
     ((st : Settings) → KeepsTape st c.args.tape.now → KeepsTape st c.read_frame.new.tape)
     c.in_err-frame.ensures.still
+
+-- what the calls ask, by a frame's length
+front-fits : (size : ℕ) → 96 ≤ size → 4 ≤ size
+front-fits size long = omega arith
+
+pub is_header-requires : goal.is_header-requires
+is_header-requires g c = small-number c.args.tape.now.number c.requires.number
+
+pub frame_bytes-size-requires : goal.frame_bytes-size-requires
+frame_bytes-size-requires g c = small-number c.args.tape.now.number c.requires.number
+
+pub overflow_sub-size : goal.overflow_sub-size
+overflow_sub-size g c = front-fits c.frame_bytes-size.result c.frame_bytes-size.ensures.range.0
+
+pub slice_bounds-read_front-count : goal.slice_bounds-read_front-count
+slice_bounds-read_front-count g c = front-fits c.frame_bytes-size.result
+    c.frame_bytes-size.ensures.range.0
+
+pub read_frame-requires-clause-kept : goal.read_frame-requires-clause-kept
+read_frame-requires-clause-kept g c = c.requires.kept
+
+pub read_frame-requires-clause-number : goal.read_frame-requires-clause-number
+read_frame-requires-clause-number g c = c.requires.number
+
+taken-few : (k most : ℕ) (xs : List ℕ) → k ≤ most → length (take k xs) ≤ most
+taken-few k most xs few = omega (arith, length-take k xs)
+
+pub read_frame-requires-clause-longest : goal.read_frame-requires-clause-longest
+read_frame-requires-clause-longest g c = taken-few c.frame_bytes-size.result 1441 _
+    c.frame_bytes-size.ensures.range.1
+
+pub copy_from_slice-requires : goal.copy_from_slice-requires
+copy_from_slice-requires g c =
+    let four : length c.args.header.now ≡ 4 = search rules in
+    ap (λ (xs : List ℕ). length (take 4 xs)) c.no_bytes-bytes.ensures ∙ sym four
