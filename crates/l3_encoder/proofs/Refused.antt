@@ -16,7 +16,7 @@ use Rattle.l3_wav.specs.declared.fault.WavFault.{WavFault}
 use Rattle.l3_wav.specs.Wav.{wav_of, after_head}
 use Rattle.l3_wav.proofs.TailLemmas.{HasLost-within}
 use Rattle.l3_encoder.specs.Changes.{SourceChange, source_change, sink_change}
-use Rattle.l3_encoder.specs.Encoded.{CountsReads, CountsWrites, ExplainsReport, GivesSomeFrames, HasReadSome, IsAccepted, IsBeforeFirst, LeavesInput, TakesFront, TakesFrontOf, encoding_in, gains_in, rest_by, rest_in}
+use Rattle.l3_encoder.specs.Encoded.{CountsReads, CountsWrites, ExplainsReport, GivesSomeFrames, HasReadSome, IsAccepted, LeavesInput, TakesFront, TakesFrontOf, encoding_in, gains_in, rest_by, rest_in}
 use Rattle.l3_encoder.specs.Opening.{IsOpened, Refuses}
 use Rattle.l3_encoder.proofs.Says.{Says, IfSome-then}
 
