@@ -1,4 +1,5 @@
 pub mod Refused
+pub mod Says
 pub mod FileStreams
 pub mod Turned
 pub mod Fresh

@@ -6,6 +6,7 @@ use Rattle.std.specs.Prelude.{Option, Some, None, IfSome, IfOk, OnOk, IsSomeAnd,
 use Rattle.std.specs.Io.KnownBytes.{Consumes}
 use Rattle.l3_base.specs.declared.rate.Rate.{Rate}
 use Rattle.l3_base.specs.declared.settings.Settings.{Settings}
+use Rattle.l3_io.specs.Causes.{count_after}
 use Rattle.l3_io.specs.Taken.{Takes}
 use Rattle.l3_wav.specs.declared.head.WavHead.{WavHead}
 use Rattle.l3_wav.specs.Wav.{wav_of, after_head, HasLost}
@@ -22,14 +23,11 @@ use Rattle.l3_turns.specs.declared.encoding.TurnFault.{TurnFault}
 use Rattle.l3_turns.specs.declared.encoding.TurnFault.TheVariants.{Read, Write}
 use Rattle.l3_turns.specs.Answers as turns
 use Rattle.l3_encoder.specs.Changes.{SourceChange, SinkChange, source_change, sink_change}
-use Rattle.l3_encoder.specs.Encoded.{IsAccepted, settings_with, left_in, right_in, encoding_by, encoding_in, rest_by, rest_in, frame_number_by, gains_by, gains_in, IsReport, AreBytes, TakesFrontOf, TakesFront, HasReadSome, ExplainsReport, GivesSomeFrames, LeavesInput}
+use Rattle.l3_encoder.specs.Encoded.{IsAccepted, settings_with, left_in, right_in, encoding_by, encoding_in, rest_by, rest_in, frame_number_by, gains_by, gains_in, IsReport, AreBytes, TakesFrontOf, TakesFront, HasReadSome, CountsReads, CountsWrites, ExplainsReport, GivesSomeFrames, IsBeforeFirst, LeavesInput}
 use Rattle.l3_encoder.specs.Opening.{IsOpened}
 use Rattle.l3_encoder.specs.Turned.{answer_of, OfSamples, IsTurned}
 use Rattle.l3_encoder.proofs.FileStreams.{samples-within}
-
-IfSome-then : {A : Type 0} (told : Option A) (P Q : A → Type 0) → ((x : A) → P x → Q x) → IfSome told P → IfSome told Q
-IfSome-then None P Q step p = tt
-IfSome-then (Some x) P Q step p = step x p
+use Rattle.l3_encoder.proofs.Says.{Says, IfSome-then}
 
 -- ---- one file, whose bytes the source tells
 
@@ -200,19 +198,37 @@ module _ {S K : Type 0} (left : S → Option (List ℕ)) (reads : S → ℕ) (ta
       IfSome-then (left first) (FileOf result) (λ bytes. now ≤ steps + gains_in rate bytes)
       (λ bytes run. run-rise rate head bytes (left last) (taken sink) (taken sink_now) steps now result run) (run-file result ran)
 
-  -- what the answer says of source and sink, of which the settings are those of the head
-  pub record Says (result : Result Report EncodeFault) : Type 0 where
-    pub explains : ExplainsReport rate result (source_change left reads first last) (sink_change taken writes sink sink_now)
-    pub some_frames : GivesSomeFrames rate result (sink_change taken writes sink sink_now)
-    pub leaves : IfSome (left first) (λ bytes. LeavesInput result bytes (left last))
-    pub rise : IfSome (left first) (λ bytes. now ≤ steps + gains_in rate bytes)
+  run-reads : (result : Result Report TurnFault) → IsRan (settings_with rate head) result →
+      CountsReads (answer_of result) (source_change left reads first last)
+  run-reads (Ok report) ran = ran.turned.cause.0 ∙ ran.is_opened.served
+  run-reads (Err Read) ran = ran.turned.cause.0 ∙ ap count_after ran.is_opened.served
+  run-reads (Err Write) ran = ran.turned.cause.0 ∙ ran.is_opened.served
 
-  run-says : (result : Result Report TurnFault) → IsRan (settings_with rate head) result → Says (answer_of result)
+  run-writes : (result : Result Report TurnFault) → IsRan (settings_with rate head) result →
+      CountsWrites (answer_of result) (sink_change taken writes sink sink_now)
+  run-writes (Ok report) ran = ran.turned.cause.1
+  run-writes (Err Read) ran = ran.turned.cause.1
+  run-writes (Err Write) ran = ran.turned.cause.1
+
+  -- it is no answer that comes before the first granule
+  run-late : (result : Result Report TurnFault) → IsBeforeFirst (answer_of result) → now ≡ steps
+  run-late (Ok report) early = absurd early
+  run-late (Err Read) early = absurd early
+  run-late (Err Write) early = absurd early
+
+  -- what the answer says of source and sink, of which the settings are those of the head
+  abbrev SaysOf : Result Report EncodeFault → Type 0
+  SaysOf answer = Says left reads taken writes rate first last sink sink_now steps now answer
+
+  run-says : (result : Result Report TurnFault) → IsRan (settings_with rate head) result → SaysOf (answer_of result)
   run-says result ran = record {
     explains = run-explains result ran;
     some_frames = run-frames result ran;
     leaves = run-input result ran;
+    counts_reads = run-reads result ran;
+    counts_writes = run-writes result ran;
     rise = run-rises result ran;
+    unstepped = run-late result;
   }
 
   -- the same of the answer that was given, where the committer was opened over the data
@@ -221,9 +237,15 @@ module _ {S K : Type 0} (left : S → Option (List ℕ)) (reads : S → ℕ) (ta
       ((bytes : List ℕ) → StandsFor c bytes st (left_of st.channels (coming samples bytes)) (right_of st.channels (coming samples bytes))) →
       IsOpened head (source_change left reads first opened) →
       IsTurned st c result (source_change left reads opened last) (sink_change taken writes sink sink_now) steps now →
-      Says answer
+      SaysOf answer
   file-says st samples result answer is settings whole within stands is_opened turned =
       let stood : StandsForData head st c = λ bytes. subst (λ (s : SamplesState). StandsFor c bytes st (left_of st.channels (coming s bytes)) (right_of st.channels (coming s bytes))) whole (stands bytes) in
       let ran : IsRan st result = record { is_opened = is_opened; turned = turned; samples = within ∙ whole; stands = stood } in
       let same = subst (λ (s : Settings). IsRan s result) settings ran in
-      subst (λ (a : Result Report EncodeFault). Says a) (sym is) (run-says result same)
+      subst SaysOf (sym is) (run-says result same)
+
+-- what is said of the report of an answer
+pub IfOk-answered : (result : Result Report TurnFault) (answer : Result Report EncodeFault) (P : Report → Type 0) → answer ≡ answer_of result → IfOk result P → IfOk answer P
+IfOk-answered (Ok report) answer P is p = rw is p
+IfOk-answered (Err Read) answer P is p = rw is tt
+IfOk-answered (Err Write) answer P is p = rw is tt

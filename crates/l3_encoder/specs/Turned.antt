@@ -1,13 +1,15 @@
 -- What encoding the samples of an open file gives.
-use Rattle.std.specs.Prelude.{◌≡◌, ℕ, ◌+◌, ◌*◌, ◌≤◌, List, ℤ, drop, Result, Ok, Err, Some, IfOk, IfSome, OnOk}
+use Rattle.std.specs.Prelude.{◌≡◌, ℕ, ◌+◌, ◌*◌, ◌<◌, ◌≤◌, List, ℤ, false, length, drop, Result, Ok, Err, Some, IfOk, IfSome, OnOk}
 use Rattle.l3_base.specs.declared.settings.Settings.{Settings}
+use Rattle.l3_board.specs.declared.entry.Entry.{Entry}
+use Rattle.l3_offers.specs.Offers.{GoesWith}
 use Rattle.l3_windows.specs.Reading.{AreGone}
 use Rattle.l3_commit.specs.declared.report.Report.{Report}
 use Rattle.l3_commit.specs.declared.report.EncodeFault.{EncodeFault}
 use Rattle.l3_commit.specs.declared.report.EncodeFault.TheVariants as fault
 use Rattle.l3_commit.specs.Encoding.{gains_tried}
 use Rattle.l3_commit.specs.Standing.{CommitterView, StandsFor}
-use Rattle.l3_commit.specs.Tracks.{next_of}
+use Rattle.l3_commit.specs.Tracks.{first_track, next_of}
 use Rattle.l3_turns.specs.declared.encoding.TurnFault.{TurnFault}
 use Rattle.l3_turns.specs.declared.encoding.TurnFault.TheVariants.{Read, Write}
 use Rattle.l3_turns.specs.Answers.{CountsFaults, GivesFrames, GivesStream, IsReport}
@@ -33,6 +35,19 @@ pub record IsTurned (st : Settings) (c : CommitterView) (result : Result Report 
   pub rise : OfSamples st c source (λ bytes left right. steps_now ≤ steps + gains_tried st left right)
   pub later_steps : steps ≤ steps_now
   pub cause : CountsFaults result source.faults source.faults_now sink.faults sink.faults_now
+
+-- a committer is before its first granule, over a board with so many cells, whose desk was made
+-- with it, tells these entries, and has served nothing
+pub record CanTurnOver (st : Settings) (c : CommitterView) (cells : ℕ) (made : Type 0) (last : List Entry) (served : ℕ) : Type 0 where
+  pub start : (c.track ≡ first_track st) × (c.windows.base ≡ 0)
+  pub desk : made
+  pub cells_are : length c.offers.placed ≡ cells
+  pub some : 0 < length c.offers.placed
+  pub ahead : 0 < c.windows.ahead
+  pub goes : GoesWith last c.offers
+  pub waits : c.offers.next ≡ 0
+  pub served_none : served ≡ 0
+  pub sound : c.windows.samples.failed ≡ false
 
 -- its samples were encoded over a board, whose desk was served with each granule
 pub record IsTurnedOver (st : Settings) (c d : CommitterView) (result : Result Report TurnFault) (source : SourceChange) (sink : SinkChange) (steps steps_now : ℕ) (made : Type 0) (served : ℕ) : Type 0 where

@@ -7,7 +7,7 @@ ghost use Rattle.l3_commit.specs.Standing.{StandsFor};
 ghost use Rattle.l3_commit.specs.Tracks.{first_track, next_of};
 ghost use Rattle.l3_turns.specs.Answers.{CountsFaults, GivesFrames, GivesStream, IsReport};
 ghost use Rattle.l3_encoder.specs.Changes.{source_change, sink_change};
-ghost use Rattle.l3_encoder.specs.Turned.{IsTurnedOver};
+ghost use Rattle.l3_encoder.specs.Turned.{CanTurnOver, IsTurnedOver};
 
 use l3_analysis::PieceBox;
 use l3_base::{Settings, Steps};
@@ -33,15 +33,7 @@ fn commit_all<S: Source, K: Sink, G: Guesser, B: Board<Item = PieceBox>, T: Gate
     sink: &mut K,
     steps: &mut Steps<L>,
 ) -> Result<Report, TurnFault>
-    requires start { (committer.old.track ≡ first_track settings) × (committer.old.windows.base ≡ 0) }
-    requires made { B.has_desk board.now desk.old }
-    requires cells { length committer.old.offers.placed ≡ B.cells board.now }
-    requires some { 0 < length committer.old.offers.placed }
-    requires ahead { 0 < committer.old.windows.ahead }
-    requires goes { GoesWith (B.last desk.old) committer.old.offers }
-    requires waits { committer.old.offers.next ≡ 0 }
-    requires served { B.served desk.old ≡ 0 }
-    requires sound { committer.old.windows.samples.failed ≡ false }
+    requires { CanTurnOver settings committer.old (B.cells board.now) (B.has_desk board.now desk.old) (B.last desk.old) (B.served desk.old) }
     ensures { IsTurnedOver settings committer.old committer.new result (source_change S.left S.faults source.old source.new)
         (sink_change K.taken K.faults sink.old sink.new) steps.old steps.new (B.has_desk board.now desk.new) (B.served desk.new) }
 {
@@ -122,10 +114,7 @@ pub fn encode_over<
             requires { IsSync R.row × IsSync B.row × IsSync T.row × All (λ seat. B.has_seat board.now seat × (B.claimed seat ≡ None)) row.now }
         { work_all(rt, board, gate, row) },
         &mut || -> Result<Report, TurnFault>
-            requires { (committer.now.track ≡ first_track settings) × (committer.now.windows.base ≡ 0) × B.has_desk board.now desk.now
-                × (length committer.now.offers.placed ≡ B.cells board.now) × (0 < length committer.now.offers.placed) × (0 < committer.now.windows.ahead)
-                × GoesWith (B.last desk.now) committer.now.offers × (committer.now.offers.next ≡ 0) × (B.served desk.now ≡ 0)
-                × (committer.now.windows.samples.failed ≡ false) }
+            requires { CanTurnOver settings committer.now (B.cells board.now) (B.has_desk board.now desk.now) (B.last desk.now) (B.served desk.now) }
             ensures { IsTurnedOver settings committer.entry.now committer.exit.now result (source_change S.left S.faults source.entry.now source.exit.now)
                 (sink_change K.taken K.faults sink.entry.now sink.exit.now) steps.entry.now steps.exit.now (B.has_desk board.entry.now desk.exit.now) (B.served desk.exit.now) }
         {

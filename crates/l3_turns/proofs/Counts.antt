@@ -1,5 +1,5 @@
 -- How many gains were tried so far.
-use Rattle.std.proofs.Common.{◌≡◌, ℕ, zero, suc, ◌+◌, ◌-◌, ◌*◌, ◌<◌, ◌≤◌, List, length, arith, refl}
+use Rattle.std.proofs.Common.{◌≡◌, ◌⊎◌, inl, inr, ℕ, zero, suc, ◌+◌, ◌-◌, ◌*◌, ◌<◌, ◌≤◌, Bool, true, List, length, arith, refl}
 use Rattle.std.specs.Prelude.{ℤ}
 use Rattle.l3_base.specs.declared.settings.Settings.{Settings}
 use Rattle.l3_base.specs.Lengths.{frames_for}
@@ -77,3 +77,22 @@ tried-next-within st left right n (suc (suc few)) turn within = absurd (omega ar
 pub tried-all : (st : Settings) (left right : List ℤ) (n few : ℕ) → n ≡ frames_for (length left) → few ≡ 0 → tried_so_far st (spectra_of left right) n few ≡ gains_tried st left right
 unfolding gains_tried
 tried-all st left right n few all none = rw (none, all) refl
+
+-- ---- counts that stand, or rise
+
+pub later-same : (a b : ℕ) → b ≡ a → a ≤ b
+later-same a b is = omega (arith, is)
+
+pub later-same-then : (a b d : ℕ) → b ≡ a → b ≤ d → a ≤ d
+later-same-then a b d is then = omega (arith, is, then)
+
+pub later-more : (a b n : ℕ) → b ≡ a + n → a ≤ b
+later-more a b n is = omega (arith, is)
+
+pub later-more-then : (a b n d : ℕ) → b ≡ a + n → b ≤ d → a ≤ d
+later-more-then a b n d is then = omega (arith, is, then)
+
+-- where all granules ahead were read, the next one was
+pub read-next : (ended : Bool) (n ahead read : ℕ) → 0 < ahead → (ended ≡ true) ⊎ (576 * (n + ahead) ≤ read) → (ended ≡ true) ⊎ (576 * (n + 1) ≤ read)
+read-next ended n ahead read some (inl all) = inl all
+read-next ended n ahead read some (inr more) = inr (omega (arith, some, more))

@@ -1,18 +1,68 @@
-use Rattle.l3_encoder.specs.Changes.{source_change}
-use Rattle.l3_encoder.proofs.Refused.{refused-frames}
+use Rattle.std.proofs.Common.{◌≡◌, ◌+◌, ◌≤◌, arith}
+use Rattle.l3_encoder.proofs.Refused.{refused-says, lacking-says}
 use Rattle.l3_encoder.proofs.Fresh.{goes-fresh}
-use Rattle.l3_encoder.proofs.Turned.{file-says}
+use Rattle.l3_encoder.proofs.Says.{still-later}
+use Rattle.l3_encoder.proofs.Turned.{IfOk-answered, file-says}
 use Rattle.l3_encoder.proofs.with.encode_with.Goals as goal
 
-pub returns-in-Err-clause-some_frames : goal.returns-in-Err-clause-some_frames
-returns-in-Err-clause-some_frames g c =
-    refused-frames c.args.rate c.in-Err.fault (source_change g.S.Source.left g.S.Source.faults c.args.source.now c.open_file.new.source) g.K.Sink.taken g.K.Sink.faults
-    c.args.sink.now c.in-Err.ensures.refused
+pub returns-in-Err : goal.returns-in-Err
+returns-in-Err g c =
+    let says = refused-says g.S.Source.left g.S.Source.faults g.K.Sink.taken g.K.Sink.faults c.args.rate
+    c.args.source.now c.open_file.new.source c.args.sink.now c.args.steps.now c.in-Err.fault c.in-Err.ensures.refused in
+    record {
+      explains = says.explains;
+      some_frames = says.some_frames;
+      left = says.leaves;
+      reads = says.counts_reads;
+      writes = says.counts_writes;
+      later = c.open_file.ensures.later;
+      later_sink = omega arith;
+      ticks = tt;
+      rise = says.rise;
+      later_steps = omega arith;
+      unstepped = says.unstepped;
+    }
 
-pub returns-clause-explains : goal.returns-clause-explains
-returns-clause-explains g c =
+pub returns-in_default : goal.returns-in_default
+returns-in_default g c =
+    let says = lacking-says g.S.Source.left g.S.Source.faults g.K.Sink.taken g.K.Sink.faults c.args.rate
+    c.args.source.now c.open_file.new.source c.args.sink.now c.args.steps.now c.in-Ok.head c.in-Ok.ensures.opened in
+    record {
+      explains = says.explains;
+      some_frames = says.some_frames;
+      left = says.leaves;
+      reads = says.counts_reads;
+      writes = says.counts_writes;
+      later = c.open_file.ensures.later;
+      later_sink = omega arith;
+      ticks = tt;
+      rise = says.rise;
+      later_steps = omega arith;
+      unstepped = says.unstepped;
+    }
+
+pub returns-in_default-lane_board : goal.returns-in_default-lane_board
+returns-in_default-lane_board g c =
+    let says = lacking-says g.S.Source.left g.S.Source.faults g.K.Sink.taken g.K.Sink.faults c.args.rate
+    c.args.source.now c.open_file.new.source c.args.sink.now c.args.steps.now c.in-Ok.head c.in-Ok.ensures.opened in
+    record {
+      explains = says.explains;
+      some_frames = says.some_frames;
+      left = says.leaves;
+      reads = says.counts_reads;
+      writes = says.counts_writes;
+      later = c.open_file.ensures.later;
+      later_sink = omega arith;
+      ticks = tt;
+      rise = says.rise;
+      later_steps = omega arith;
+      unstepped = says.unstepped;
+    }
+
+pub returns : goal.returns
+returns g c =
     let turned = c.encode_over.ensures in
-    (file-says g.S.Source.left g.S.Source.faults g.K.Sink.taken g.K.Sink.faults c.args.rate c.in-Ok.head c.in-Ok-open.committer
+    let says = file-says g.S.Source.left g.S.Source.faults g.K.Sink.taken g.K.Sink.faults c.args.rate c.in-Ok.head c.in-Ok-open.committer
     c.args.source.now c.open_file.new.source c.encode_over.new.source c.args.sink.now c.encode_over.new.sink c.args.steps.now c.encode_over.new.steps
     c.settings_of-settings.result c.new-samples.result c.encode_over.result c.answer_of.result c.answer_of.ensures c.settings_of-settings.ensures c.new-samples.ensures
     c.in-Ok-open.ensures.windows.2 c.in-Ok-open.ensures.stands c.in-Ok.ensures.opened (record {
@@ -24,58 +74,20 @@ returns-clause-explains g c =
       rise = turned.rise;
       later_steps = turned.later_steps;
       cause = turned.cause;
-    })).explains
-
-pub returns-clause-some_frames : goal.returns-clause-some_frames
-returns-clause-some_frames g c =
-    let turned = c.encode_over.ensures in
-    (file-says g.S.Source.left g.S.Source.faults g.K.Sink.taken g.K.Sink.faults c.args.rate c.in-Ok.head c.in-Ok-open.committer
-    c.args.source.now c.open_file.new.source c.encode_over.new.source c.args.sink.now c.encode_over.new.sink c.args.steps.now c.encode_over.new.steps
-    c.settings_of-settings.result c.new-samples.result c.encode_over.result c.answer_of.result c.answer_of.ensures c.settings_of-settings.ensures c.new-samples.ensures
-    c.in-Ok-open.ensures.windows.2 c.in-Ok-open.ensures.stands c.in-Ok.ensures.opened (record {
-      bytes = turned.bytes;
-      frames = turned.frames;
-      rest = turned.rest;
-      gone = turned.gone;
-      report = turned.report;
-      rise = turned.rise;
+    }) in
+    record {
+      explains = says.explains;
+      some_frames = says.some_frames;
+      left = says.leaves;
+      reads = says.counts_reads;
+      writes = says.counts_writes;
+      later = still-later (g.S.Source.faults c.args.source.now) (g.S.Source.faults c.open_file.new.source) (g.S.Source.faults c.encode_over.new.source) c.open_file.ensures.later turned.later.0;
+      later_sink = turned.later.1;
+      ticks = IfOk-answered c.encode_over.result c.answer_of.result (λ report. (report.made ≤ report.tried) × (c.encode_over.new.steps ≡ c.args.steps.now + report.made)) c.answer_of.ensures turned.ticks;
+      rise = says.rise;
       later_steps = turned.later_steps;
-      cause = turned.cause;
-    })).some_frames
-
-pub returns-clause-left : goal.returns-clause-left
-returns-clause-left g c =
-    let turned = c.encode_over.ensures in
-    (file-says g.S.Source.left g.S.Source.faults g.K.Sink.taken g.K.Sink.faults c.args.rate c.in-Ok.head c.in-Ok-open.committer
-    c.args.source.now c.open_file.new.source c.encode_over.new.source c.args.sink.now c.encode_over.new.sink c.args.steps.now c.encode_over.new.steps
-    c.settings_of-settings.result c.new-samples.result c.encode_over.result c.answer_of.result c.answer_of.ensures c.settings_of-settings.ensures c.new-samples.ensures
-    c.in-Ok-open.ensures.windows.2 c.in-Ok-open.ensures.stands c.in-Ok.ensures.opened (record {
-      bytes = turned.bytes;
-      frames = turned.frames;
-      rest = turned.rest;
-      gone = turned.gone;
-      report = turned.report;
-      rise = turned.rise;
-      later_steps = turned.later_steps;
-      cause = turned.cause;
-    })).leaves
-
-pub returns-clause-rise : goal.returns-clause-rise
-returns-clause-rise g c =
-    let turned = c.encode_over.ensures in
-    (file-says g.S.Source.left g.S.Source.faults g.K.Sink.taken g.K.Sink.faults c.args.rate c.in-Ok.head c.in-Ok-open.committer
-    c.args.source.now c.open_file.new.source c.encode_over.new.source c.args.sink.now c.encode_over.new.sink c.args.steps.now c.encode_over.new.steps
-    c.settings_of-settings.result c.new-samples.result c.encode_over.result c.answer_of.result c.answer_of.ensures c.settings_of-settings.ensures c.new-samples.ensures
-    c.in-Ok-open.ensures.windows.2 c.in-Ok-open.ensures.stands c.in-Ok.ensures.opened (record {
-      bytes = turned.bytes;
-      frames = turned.frames;
-      rest = turned.rest;
-      gone = turned.gone;
-      report = turned.report;
-      rise = turned.rise;
-      later_steps = turned.later_steps;
-      cause = turned.cause;
-    })).rise
+      unstepped = says.unstepped;
+    }
 
 pub encode_over-requires-clause-goes : goal.encode_over-requires-clause-goes
 encode_over-requires-clause-goes g c κs within =

@@ -1,8 +1,10 @@
 use Rattle.std.proofs.Common.{arith, ◌≡◌, ◌∙◌, ap, sym, subst, inl, inr, ℕ, ◌+◌, ◌*◌, ◌<◌, ◌≤◌, ◌⊎◌, true, false, length, refl}
 use Rattle.std.specs.Prelude.{Result, Ok, Err, ℤ, List}
 use Rattle.l3_base.specs.Lengths.{granules_for}
+use Rattle.l3_io.specs.Causes.{count_after}
 use Rattle.l3_windows.specs.Holding.{WindowsView, Holds}
 use Rattle.l3_commit.specs.Tracks.{TrackView, next_of}
+use Rattle.l3_turns.proofs.Counts.{later-same, later-same-then, later-more, later-more-then, read-next}
 use Rattle.l3_turns.proofs.Loop.{AllDone, owes-fresh, IfSome-samples}
 use Rattle.l3_turns.proofs.SoFar.{so_far-first, so_far-read, so_far-gathered, so_far-turned, so_far-half, so_far-whole, gone-here, gone-with, rose-here, rose-broken, rest-here, report-here, good-here, behind-here, front-here, frames-here, front-broken, frames-broken, stream-ended, frames-ended}
 use Rattle.l3_turns.specs.declared.encoding.TurnFault.TheVariants.{Read, Write}
@@ -45,6 +47,44 @@ returns-in_default-clause-gone g c = gone-with c.granules.invariant.so_far (g.S.
 
 pub returns-in_default-clause-rise : goal.returns-in_default-clause-rise
 returns-in_default-clause-rise g c = rose-here c.granules.invariant.so_far
+
+pub returns-in_default-clause-rest : goal.returns-in_default-clause-rest
+returns-in_default-clause-rest g c = tt
+
+pub returns-in_default-clause-report : goal.returns-in_default-clause-report
+returns-in_default-clause-report g c = tt
+
+pub returns-in_default-clause-ticks : goal.returns-in_default-clause-ticks
+returns-in_default-clause-ticks g c = tt
+
+pub returns-in_default-clause-later_steps : goal.returns-in_default-clause-later_steps
+returns-in_default-clause-later_steps g c = later-more c.args.steps.now c.granules.steps c.granules.made c.granules.invariant.ticks
+
+pub returns-in_default-clause-cause : goal.returns-in_default-clause-cause
+returns-in_default-clause-cause g c = (c.in_default.ensures.cause.failed ∙ ap count_after c.granules.invariant.reads, c.granules.invariant.writes)
+
+pub returns-in_default-clause-later : goal.returns-in_default-clause-later
+returns-in_default-clause-later g c = (later-same-then (g.S.Source.faults c.args.source.now) (g.S.Source.faults c.granules.source) (g.S.Source.faults c.read_ahead.new.source) c.granules.invariant.reads c.in_default.ensures.cause.later, later-same (g.K.Sink.faults c.args.sink.now) (g.K.Sink.faults c.granules.sink) c.granules.invariant.writes)
+
+-- ---- what is asked of the next granule
+
+pub next-requires-clause-there : goal.next-requires-clause-there
+next-requires-clause-there g c = rw (ap next_of c.in-Ok.ensures.track) (read-next c.read_ahead.new.self.windows.ended (next_of c.granules.committer.track) c.granules.committer.windows.ahead c.read_ahead.new.self.windows.read c.granules.invariant.ahead c.in-Ok.ensures.at_hand)
+
+pub next-requires-clause-limit : goal.next-requires-clause-limit
+next-requires-clause-limit g c = rw (ap next_of c.in-Ok.ensures.track) c.granules.invariant.limit
+
+pub gather_alone-requires-clause-alone : goal.gather_alone-requires-clause-alone
+gather_alone-requires-clause-alone g c = rw c.in-Ok.ensures.offers c.granules.invariant.alone
+
+pub gather_alone-requires-clause-base : goal.gather_alone-requires-clause-base
+gather_alone-requires-clause-base g c = c.in-Ok.ensures.base ∙ ap next_of (sym c.in-Ok.ensures.track)
+
+pub gather_alone-requires-clause-there : goal.gather_alone-requires-clause-there
+gather_alone-requires-clause-there g c = rw (ap next_of c.in-Ok.ensures.track) (read-next c.read_ahead.new.self.windows.ended (next_of c.granules.committer.track) c.granules.committer.windows.ahead c.read_ahead.new.self.windows.read c.granules.invariant.ahead c.in-Ok.ensures.at_hand)
+
+pub gather_alone-requires-clause-limit : goal.gather_alone-requires-clause-limit
+gather_alone-requires-clause-limit g c = rw (ap next_of c.in-Ok.ensures.track) c.granules.invariant.limit
 
 -- ---- a turn
 
@@ -174,6 +214,24 @@ returns-in_default-turn-clause-rise g c =
     λ bytes p q h. rw (ap next_of same.0) (rw c.in-Some.ensures.some.0 at (c.in-Some.ensures.some.1 bytes p q (subst (λ (w : WindowsView). Holds w bytes p q) same.1 h))) in
     rose-broken here c.turn.new.steps below c.in_default-turn.ensures.rise
 
+pub returns-in_default-turn-clause-rest : goal.returns-in_default-turn-clause-rest
+returns-in_default-turn-clause-rest g c = tt
+
+pub returns-in_default-turn-clause-report : goal.returns-in_default-turn-clause-report
+returns-in_default-turn-clause-report g c = tt
+
+pub returns-in_default-turn-clause-ticks : goal.returns-in_default-turn-clause-ticks
+returns-in_default-turn-clause-ticks g c = tt
+
+pub returns-in_default-turn-clause-later_steps : goal.returns-in_default-turn-clause-later_steps
+returns-in_default-turn-clause-later_steps g c = later-more-then c.args.steps.now c.granules.steps c.granules.made c.turn.new.steps c.granules.invariant.ticks c.in_default-turn.ensures.later
+
+pub returns-in_default-turn-clause-cause : goal.returns-in_default-turn-clause-cause
+returns-in_default-turn-clause-cause g c = (c.in-Ok.ensures.cause.served ∙ c.granules.invariant.reads, c.in_default-turn.ensures.cause.failed ∙ ap count_after c.granules.invariant.writes)
+
+pub returns-in_default-turn-clause-later : goal.returns-in_default-turn-clause-later
+returns-in_default-turn-clause-later g c = (later-same (g.S.Source.faults c.args.source.now) (g.S.Source.faults c.read_ahead.new.source) (c.in-Ok.ensures.cause.served ∙ c.granules.invariant.reads), later-same-then (g.K.Sink.faults c.args.sink.now) (g.K.Sink.faults c.granules.sink) (g.K.Sink.faults c.turn.new.sink) c.granules.invariant.writes c.in_default-turn.ensures.cause.later)
+
 -- ---- behind the last granule
 
 pub finish-requires-after_bounds : goal.finish-requires-after_bounds
@@ -269,3 +327,33 @@ returns-in-Err-clause-gone g c =
 pub returns-in-Err-clause-rise : goal.returns-in-Err-clause-rise
 returns-in-Err-clause-rise g c =
     rose-here c.granules.invariant.so_far
+
+pub returns-in-Ok-finish-clause-ticks : goal.returns-in-Ok-finish-clause-ticks
+returns-in-Ok-finish-clause-ticks g c = (c.granules.invariant.alike, c.granules.invariant.ticks)
+
+pub returns-in-Ok-finish-clause-later_steps : goal.returns-in-Ok-finish-clause-later_steps
+returns-in-Ok-finish-clause-later_steps g c = later-more c.args.steps.now c.granules.steps c.granules.made c.granules.invariant.ticks
+
+pub returns-in-Ok-finish-clause-cause : goal.returns-in-Ok-finish-clause-cause
+returns-in-Ok-finish-clause-cause g c = (c.in-Ok.ensures.cause.served ∙ c.granules.invariant.reads, c.in-Ok-finish.ensures.cause.served ∙ c.granules.invariant.writes)
+
+pub returns-in-Ok-finish-clause-later : goal.returns-in-Ok-finish-clause-later
+returns-in-Ok-finish-clause-later g c = (later-same (g.S.Source.faults c.args.source.now) (g.S.Source.faults c.read_ahead.new.source) (c.in-Ok.ensures.cause.served ∙ c.granules.invariant.reads), later-same-then (g.K.Sink.faults c.args.sink.now) (g.K.Sink.faults c.granules.sink) (g.K.Sink.faults c.finish.new.sink) c.granules.invariant.writes c.in-Ok-finish.ensures.cause.later)
+
+pub returns-in-Err-clause-rest : goal.returns-in-Err-clause-rest
+returns-in-Err-clause-rest g c = tt
+
+pub returns-in-Err-clause-report : goal.returns-in-Err-clause-report
+returns-in-Err-clause-report g c = tt
+
+pub returns-in-Err-clause-ticks : goal.returns-in-Err-clause-ticks
+returns-in-Err-clause-ticks g c = tt
+
+pub returns-in-Err-clause-later_steps : goal.returns-in-Err-clause-later_steps
+returns-in-Err-clause-later_steps g c = later-more c.args.steps.now c.granules.steps c.granules.made c.granules.invariant.ticks
+
+pub returns-in-Err-clause-cause : goal.returns-in-Err-clause-cause
+returns-in-Err-clause-cause g c = (c.in-Ok.ensures.cause.served ∙ c.granules.invariant.reads, c.in-Err.ensures.cause.failed ∙ ap count_after c.granules.invariant.writes)
+
+pub returns-in-Err-clause-later : goal.returns-in-Err-clause-later
+returns-in-Err-clause-later g c = (later-same (g.S.Source.faults c.args.source.now) (g.S.Source.faults c.read_ahead.new.source) (c.in-Ok.ensures.cause.served ∙ c.granules.invariant.reads), later-same-then (g.K.Sink.faults c.args.sink.now) (g.K.Sink.faults c.granules.sink) (g.K.Sink.faults c.finish.new.sink) c.granules.invariant.writes c.in-Err.ensures.cause.later)
