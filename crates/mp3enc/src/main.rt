@@ -1,27 +1,12 @@
-//! WAV on standard input -> MP3 on standard output, or an MP3 stream -> whether and how far it can
-//! be read, or a number -> the digest of a stream; how it ended -> standard error and the exit
-//! status.
+//! The process: its arguments, standard streams and exit status.
 //!
-//! Before: `l3_encoder`, `l3_reader`, `l3_demo`. After: nothing; this is the program.
+//! Before: `l3_program`, which does what the arguments ask for. After: nothing; this is the program.
 #![tactic(auto)]
 
-mod check;
-mod demo;
-mod encode;
-mod ending;
-mod guess;
-mod process;
-mod program;
-mod status;
-mod words;
-
-use ending::{Ending, tell};
 use l3_encoder::OpenGate;
 use l3_guess::{Flat, Guesser, Last, Mean};
 use l3_io::{StdSink, StdSource};
-use process::{arguments, start};
-pub use program::{run, run_alone};
-pub use status::Status;
+use l3_program::{Ending, arguments, start, tell};
 use std::process::ExitCode;
 
 fn main(rt: HostRuntime) -> ExitCode {
@@ -51,10 +36,3 @@ fn main(rt: HostRuntime) -> ExitCode {
         &OpenGate,
     )
 }
-
-#[cfg(test)]
-mod impulse;
-#[cfg(test)]
-mod sine;
-#[cfg(test)]
-mod tests;

@@ -1,4 +1,0 @@
-use Rattle.mp3enc.proofs.process.start.Given as goal
-
-abbrev pub ghosts-run_arguments : goal.ghosts-run_arguments
-ghosts-run_arguments g a = record { name = a.blank.name; parts = a.blank.parts }

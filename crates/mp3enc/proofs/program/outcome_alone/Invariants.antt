@@ -1,4 +1,0 @@
-use Rattle.mp3enc.proofs.program.outcome_alone.Given as goal
-
-abbrev pub ghosts-alone_counted : goal.ghosts-alone_counted
-ghosts-alone_counted g a = record { name = a.blank.name; parts = a.blank.parts }
