@@ -16,6 +16,7 @@ mod status;
 mod words;
 
 pub use ending::{Ending, tell};
+pub use guess::{Asked, guesser_asked};
 pub use process::{NoWords, arguments, start};
 pub use program::{run, run_alone};
 pub use status::Status;

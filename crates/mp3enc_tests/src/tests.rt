@@ -53,21 +53,79 @@ fn zero_sample() -> [u8; 835] {
     stream
 }
 
-// How a run on one thread ended, what a sink took of it, what notes say, and what is left of the
-// source.
+// How a run on one thread ended, what it wrote, what notes were told, and how many bytes of the source
+// were left, if they can be read.
+#[derive(Drop)]
+struct Run {
+    status: Option<Status>,
+    sink: MemSink,
+    notes: MemSink,
+    left: Option<usize>,
+}
+
+impl Run {
+    // Whether it ended so, wrote just these bytes and told notes just these.
+    fn ended(&self, status: Status, written: &[u8], told: &[u8]) -> bool {
+        self.status == Some(status) && self.sink.bytes() == written && self.notes.bytes() == told
+    }
+
+    // Whether it ended well, wrote so many bytes, the first of them these, and told nothing.
+    fn began(&self, count: usize, front: &[u8]) -> bool {
+        self.status == Some(Status::Ok)
+            && self.sink.bytes().len() == count
+            && self.sink.bytes().starts_with(front)
+            && self.notes.bytes().is_empty()
+    }
+
+    // Whether these bytes stand at this place of what it wrote.
+    fn has_at(&self, at: usize, bytes: &[u8]) -> bool {
+        self.sink.bytes().get(at..).unwrap_or(&[]).starts_with(bytes)
+    }
+}
+
+// How many bytes a source of at most 5000 has left.
+fn left(source: &mut MemSource) -> Option<usize> {
+    let mut rest = [0; 5000];
+    read_full(source, &mut rest).ok()
+}
+
+// A run on one thread, of a source that fails at these reads and a sink of so much room.
 fn alone(
     rt: &HostRuntime,
     words: &[&str],
     bytes: &[u8],
     room: usize,
     fails: &[u64],
-) -> Result<(Option<Status>, MemSink, MemSink, MemSource), AllocError> {
+) -> Result<Run, AllocError> {
     let alloc = rt.alloc();
     let mut source = MemSource::new(alloc, bytes, 100, fails)?;
     let mut sink = MemSink::new(alloc, room, 300, &[])?;
     let mut notes = MemSink::new(alloc, 100, 7, &[])?;
     let status = run_alone(alloc, words, &mut source, &mut sink, &mut notes);
-    Ok((status, sink, notes, source))
+    let left = left(&mut source);
+    Ok(Run {
+        status,
+        sink,
+        notes,
+        left,
+    })
+}
+
+// An encoding at this rate on one thread, of a source that does not fail.
+fn encoded(rt: &HostRuntime, rate: &str, bytes: &[u8]) -> Result<Run, AllocError> {
+    let words = ["encode", "--rate", rate, "--workers", "0"];
+    alone(rt, &words, bytes, 1000000, &[])
+}
+
+// Whether a check of these bytes ends so, writes just this line and tells notes just this one.
+fn checks(
+    rt: &HostRuntime,
+    bytes: &[u8],
+    status: Status,
+    line: &[u8],
+    told: &[u8],
+) -> Result<bool, AllocError> {
+    Ok(alone(rt, &["check"], bytes, 100, &[])?.ended(status, line, told))
 }
 
 // How a run with these guessers ends, and what a sink took of it, with a counter of its own.
@@ -101,119 +159,66 @@ fn counted<L: Ledger + Send, R: Threads + Wait + Sync>(
     Ok((status, sink))
 }
 
-fn with_guessers<R: Threads + Wait + Sync>(
+// Whether a run with these guessers ends so and writes just these bytes.
+fn gives<R: Threads + Wait + Sync>(
     rt: &R,
     alloc: Global,
     words: &[&str],
     bytes: &[u8],
     guessers: Vec<Box<dyn Guesser>>,
-) -> Result<(Status, MemSink), AllocError> {
-    counted::<Brand, R>(rt, alloc, words, bytes, guessers, Blank::new(1))
+    status: Status,
+    written: &[u8],
+) -> Result<bool, AllocError> {
+    let (answer, sink) = counted::<Brand, R>(rt, alloc, words, bytes, guessers, Blank::new(1))?;
+    Ok(answer == status && sink.bytes() == written)
 }
 
-// The same with the guessers of the program.
-fn with_three<R: Threads + Wait + Sync>(
-    rt: &R,
-    alloc: Global,
-    words: &[&str],
-    bytes: &[u8],
-) -> Result<(Status, MemSink), AllocError> {
+// The guessers of the program.
+fn three(alloc: Global) -> Result<Vec<Box<dyn Guesser>>, AllocError> {
     let mut guessers: Vec<Box<dyn Guesser>> = Vec::new(alloc);
     guessers.push(Box::new(alloc, Last::new())?)?;
     guessers.push(Box::new(alloc, Mean::new())?)?;
     guessers.push(Box::new(alloc, Flat::new(0))?)?;
-    with_guessers(rt, alloc, words, bytes, guessers)
-}
-
-// How many bytes a source of at most 5000 has left.
-fn left(source: &mut MemSource) -> Option<usize> {
-    let mut rest = [0; 5000];
-    read_full(source, &mut rest).ok()
+    Ok(guessers)
 }
 
 #[test]
 fn one_zero_sample(rt: HostRuntime) -> Result<(), Fail> {
     let bytes = zeros(rt.alloc(), 1, [0x44, 0xAC], 1)?;
-    let (status, sink, notes, _) = alone(
-        &rt,
-        &["encode", "--workers", "0"],
-        bytes.as_slice(),
-        10000,
-        &[],
-    )?;
-    assert_eq!(rt; status, Some(Status::Ok));
-    assert_eq!(rt; sink.bytes(), zero_sample().as_slice());
-    assert_eq!(rt; notes.bytes().len(), 0);
-    Ok(())
-}
-
-#[test]
-fn one_zero_sample_with_statistics(rt: HostRuntime) -> Result<(), Fail> {
-    let bytes = zeros(rt.alloc(), 1, [0x44, 0xAC], 1)?;
+    let run = alone(&rt, &["encode", "--workers", "0"], bytes.as_slice(), 10000, &[])?;
+    assert!(rt; run.ended(Status::Ok, &zero_sample(), b""));
     let words = ["encode", "--workers", "0", "--guess", "4", "--stats"];
-    let (status, sink, notes, _) = alone(&rt, &words, bytes.as_slice(), 10000, &[])?;
-    assert_eq!(rt; status, Some(Status::Ok));
-    assert_eq!(rt; sink.bytes(), zero_sample().as_slice());
-    assert_eq!(rt;
-        notes.bytes(),
-        b"frames 2 tried 4 made 4 reused 0\n".as_slice()
-    );
+    let run = alone(&rt, &words, bytes.as_slice(), 10000, &[])?;
+    assert!(rt; run.ended(Status::Ok, &zero_sample(), b"frames 2 tried 4 made 4 reused 0\n"));
     Ok(())
 }
 
 #[test]
 fn zeros_over_two_frames(rt: HostRuntime) -> Result<(), Fail> {
     let bytes = zeros(rt.alloc(), 1, [0x44, 0xAC], 1153)?;
-    let (status, sink, _, _) = alone(
-        &rt,
-        &["encode", "--workers", "0"],
-        bytes.as_slice(),
-        10000,
-        &[],
-    )?;
-    assert_eq!(rt; status, Some(Status::Ok));
-    assert_eq!(rt; sink.bytes().len(), 417 + 418 + 418);
-    let third = sink.bytes().get(835..).unwrap_or(&[]);
-    assert!(rt; third.starts_with(&[0xFF, 0xFB, 0x92, 0xC0, 0xFF, 0x80]));
+    let run = encoded(&rt, "128", bytes.as_slice())?;
+    assert!(rt; run.began(417 + 418 + 418, &[]));
+    assert!(rt; run.has_at(835, &[0xFF, 0xFB, 0x92, 0xC0, 0xFF, 0x80]));
     Ok(())
 }
 
 #[test]
 fn no_samples(rt: HostRuntime) -> Result<(), Fail> {
-    let (status, sink, _, _) = alone(&rt, &["encode", "--workers", "0"], &HEAD, 10000, &[])?;
-    assert_eq!(rt; status, Some(Status::Ok));
-    assert_eq!(rt; sink.bytes().len(), 0);
+    let run = encoded(&rt, "128", &HEAD)?;
+    assert!(rt; run.ended(Status::Ok, b"", b""));
     Ok(())
 }
 
 #[test]
 fn reservoir_fills_at_32_kbit(rt: HostRuntime) -> Result<(), Fail> {
     let bytes = zeros(rt.alloc(), 2, [0x80, 0xBB], 23040)?;
-    let words = ["encode", "--rate", "32", "--workers", "0"];
-    let (status, sink, _, _) = alone(&rt, &words, bytes.as_slice(), 10000, &[])?;
-    assert_eq!(rt; status, Some(Status::Ok));
-    assert_eq!(rt; sink.bytes().len(), 11 * 96);
-    // Where a frame's side information begins, and the nine bits of main_data_begin there.
-    for (at, begin) in [
-        (4, 0),
-        (100, 60),
-        (196, 120),
-        (292, 180),
-        (388, 240),
-        (484, 300),
-        (580, 360),
-        (676, 420),
-        (772, 480),
-        (868, 511),
-        (964, 511),
-    ] {
-        let high = sink.bytes().get(at).copied().unwrap_or(0);
-        let low = sink.bytes().get(at + 1).copied().unwrap_or(0);
-        assert_eq!(rt;
-            u16::from(high) * 2 + u16::from(low) / 128,
-            begin,
-            "at {at}"
-        );
+    let run = encoded(&rt, "32", bytes.as_slice())?;
+    assert!(rt; run.began(11 * 96, &[]));
+    // The nine bits of main_data_begin, with which a frame's side information begins.
+    let begins = [0u16, 60, 120, 180, 240, 300, 360, 420, 480, 511, 511];
+    for frame in 0..11 {
+        let bits = begins[frame] * 128;
+        assert!(rt; run.has_at(96 * frame + 4, &bits.to_be_bytes()));
     }
     Ok(())
 }
@@ -221,17 +226,9 @@ fn reservoir_fills_at_32_kbit(rt: HostRuntime) -> Result<(), Fail> {
 #[test]
 fn no_reservoir_at_320_kbit(rt: HostRuntime) -> Result<(), Fail> {
     let bytes = zeros(rt.alloc(), 1, [0x44, 0xAC], 1)?;
-    let words = ["encode", "--rate", "0320", "--workers", "0"];
-    let (status, sink, _, _) = alone(&rt, &words, bytes.as_slice(), 10000, &[])?;
-    assert_eq!(rt; status, Some(Status::Ok));
-    assert_eq!(rt; sink.bytes().len(), 1044 + 1045);
-    for (at, front) in [
-        (0, [0xFF, 0xFB, 0xE0, 0xC0, 0x00, 0x00]),
-        (1044, [0xFF, 0xFB, 0xE2, 0xC0, 0x00, 0x00]),
-    ] {
-        let rest = sink.bytes().get(at..).unwrap_or(&[]);
-        assert!(rt; rest.starts_with(&front), "at {at}");
-    }
+    let run = encoded(&rt, "0320", bytes.as_slice())?;
+    assert!(rt; run.began(1044 + 1045, &[0xFF, 0xFB, 0xE0, 0xC0, 0x00, 0x00]));
+    assert!(rt; run.has_at(1044, &[0xFF, 0xFB, 0xE2, 0xC0, 0x00, 0x00]));
     Ok(())
 }
 
@@ -249,11 +246,21 @@ fn sine_file(alloc: Global) -> Result<Vec<u8>, AllocError> {
 #[test]
 fn sine_at_32_kbit(rt: HostRuntime) -> Result<(), Fail> {
     let bytes = sine_file(rt.alloc())?;
-    let words = ["encode", "--rate", "32", "--workers", "0"];
-    let (status, sink, _, _) = alone(&rt, &words, bytes.as_slice(), 10000, &[])?;
-    assert_eq!(rt; status, Some(Status::Ok));
-    assert_eq!(rt; sink.bytes(), stream());
+    let run = encoded(&rt, "32", bytes.as_slice())?;
+    assert!(rt; run.ended(Status::Ok, stream(), b""));
+    assert!(rt; checks(&rt, stream(), Status::Ok, b"frames 4 bits 3616\n", b"")?);
     Ok(())
+}
+
+// The stream of an impulse at 128 kbit/s.
+fn impulse_stream() -> [u8; 1253] {
+    let mut stream = [0; 1253];
+    stream[..4].copy_from_slice(&[0xFF, 0xFB, 0x90, 0xC0]);
+    stream[835..840].copy_from_slice(&[0xFF, 0xFB, 0x92, 0xC0, 0x70]);
+    for (place, byte) in stream[13..611].iter_mut().zip(middle()) {
+        *place = *byte;
+    }
+    stream
 }
 
 #[test]
@@ -263,23 +270,9 @@ fn impulse_at_128_kbit(rt: HostRuntime) -> Result<(), Fail> {
     if let Some(sample) = bytes.as_mut_slice().get_mut(1444..1446) {
         sample.copy_from_slice(&[0xFF, 0x7F]);
     }
-    let (status, sink, _, _) = alone(
-        &rt,
-        &["encode", "--workers", "0"],
-        bytes.as_slice(),
-        10000,
-        &[],
-    )?;
-    assert_eq!(rt; status, Some(Status::Ok));
-    let mut stream = [0; 1253];
-    stream[..4].copy_from_slice(&[0xFF, 0xFB, 0x90, 0xC0]);
-    stream[835..840].copy_from_slice(&[0xFF, 0xFB, 0x92, 0xC0, 0x70]);
-    assert_eq!(rt; sink.bytes().get(13..611), Some(middle()));
-    assert_eq!(rt; sink.bytes().get(..13), stream.get(..13));
-    assert_eq!(rt; sink.bytes().get(611..), stream.get(611..));
-    let (status, sink, _, _) = alone(&rt, &["check"], sink.bytes(), 100, &[])?;
-    assert_eq!(rt; status, Some(Status::Ok));
-    assert_eq!(rt; sink.bytes(), b"frames 3 bits 4539\n".as_slice());
+    let run = encoded(&rt, "128", bytes.as_slice())?;
+    assert!(rt; run.ended(Status::Ok, &impulse_stream(), b""));
+    assert!(rt; checks(&rt, &impulse_stream(), Status::Ok, b"frames 3 bits 4539\n", b"")?);
     Ok(())
 }
 
@@ -291,19 +284,9 @@ fn ten_seconds_from_a_pipe(rt: HostRuntime) -> Result<(), Fail> {
     for _ in 0..3528 {
         bytes.extend_from_slice(&[0; 500])?;
     }
-    let (status, sink, _, _) = alone(
-        &rt,
-        &["encode", "--workers", "0"],
-        bytes.as_slice(),
-        1000000,
-        &[],
-    )?;
-    assert_eq!(rt; status, Some(Status::Ok));
-    assert_eq!(rt; sink.bytes().len(), 160496);
-    assert!(rt; sink.bytes().starts_with(&[0xFF, 0xFB, 0x90, 0x00]));
-    let (status, sink, _, _) = alone(&rt, &["check"], sink.bytes(), 100, &[])?;
-    assert_eq!(rt; status, Some(Status::Ok));
-    assert_eq!(rt; sink.bytes(), b"frames 384 bits 0\n".as_slice());
+    let run = encoded(&rt, "128", bytes.as_slice())?;
+    assert!(rt; run.began(160496, &[0xFF, 0xFB, 0x90, 0x00]));
+    assert!(rt; checks(&rt, run.sink.bytes(), Status::Ok, b"frames 384 bits 0\n", b"")?);
     Ok(())
 }
 
@@ -311,77 +294,21 @@ fn ten_seconds_from_a_pipe(rt: HostRuntime) -> Result<(), Fail> {
 fn refused_heads(rt: HostRuntime) -> Result<(), Fail> {
     // With this byte of the head changed to this one, the status, what notes are told and how many
     // bytes are left.
-    for (at, byte, status, text, rest) in [
-        (
-            3,
-            b'X',
-            Status::BadWav,
-            b"mp3enc: wav: NotRiff\n".as_slice(),
-            32,
-        ),
-        (
-            12,
-            b'x',
-            Status::BadWav,
-            b"mp3enc: wav: NoFmtBeforeData\n".as_slice(),
-            0,
-        ),
-        (
-            18,
-            0x10,
-            Status::BadWav,
-            b"mp3enc: wav: HeaderTooLong\n".as_slice(),
-            24,
-        ),
-        (
-            20,
-            2,
-            Status::Unsupported,
-            b"mp3enc: wav: UnsupportedFormat\n".as_slice(),
-            8,
-        ),
-        (
-            22,
-            3,
-            Status::Unsupported,
-            b"mp3enc: wav: UnsupportedChannels\n".as_slice(),
-            8,
-        ),
-        (
-            24,
-            0x45,
-            Status::Unsupported,
-            b"mp3enc: wav: UnsupportedRate\n".as_slice(),
-            8,
-        ),
-        (
-            34,
-            8,
-            Status::Unsupported,
-            b"mp3enc: wav: UnsupportedDepth\n".as_slice(),
-            8,
-        ),
-        (
-            32,
-            4,
-            Status::BadWav,
-            b"mp3enc: wav: BadBlockAlign\n".as_slice(),
-            8,
-        ),
+    let (bad, other) = (Status::BadWav, Status::Unsupported);
+    for (at, byte, status, told, left) in [
+        (3, b'X', bad, b"mp3enc: wav: NotRiff\n".as_slice(), 32),
+        (12, b'x', bad, b"mp3enc: wav: NoFmtBeforeData\n", 0),
+        (18, 0x10, bad, b"mp3enc: wav: HeaderTooLong\n", 24),
+        (20, 2, other, b"mp3enc: wav: UnsupportedFormat\n", 8),
+        (22, 3, other, b"mp3enc: wav: UnsupportedChannels\n", 8),
+        (24, 0x45, other, b"mp3enc: wav: UnsupportedRate\n", 8),
+        (34, 8, other, b"mp3enc: wav: UnsupportedDepth\n", 8),
+        (32, 4, bad, b"mp3enc: wav: BadBlockAlign\n", 8),
     ] {
         let mut head = HEAD;
         head[at] = byte;
-        let (answer, sink, notes, mut source) = alone(
-            &rt,
-            &["encode", "--workers", "0"],
-            &head,
-            10000,
-            &[],
-        )?;
-        assert_eq!(rt; answer, Some(status));
-        assert_eq!(rt; sink.bytes().len(), 0);
-        assert_eq!(rt; notes.bytes(), text);
-        assert_eq!(rt; left(&mut source), Some(rest));
+        let run = encoded(&rt, "128", &head)?;
+        assert!(rt; run.ended(status, b"", told) && run.left == Some(left));
     }
     Ok(())
 }
@@ -389,36 +316,19 @@ fn refused_heads(rt: HostRuntime) -> Result<(), Fail> {
 #[test]
 fn read_fails_in_the_data(rt: HostRuntime) -> Result<(), Fail> {
     let bytes = zeros(rt.alloc(), 2, [0x44, 0xAC], 2304)?;
-    let (status, sink, notes, mut source) = alone(
-        &rt,
-        &["encode", "--workers", "0"],
-        bytes.as_slice(),
-        10000,
-        &[2],
-    )?;
-    assert_eq!(rt; status, Some(Status::ReadFault));
-    assert_eq!(rt; sink.bytes().len(), 0);
-    assert_eq!(rt; notes.bytes(), b"mp3enc: read fault\n".as_slice());
+    let run = alone(&rt, &["encode", "--workers", "0"], bytes.as_slice(), 10000, &[2])?;
+    assert!(rt; run.ended(Status::ReadFault, b"", b"mp3enc: read fault\n"));
     // The third read is that of the 16 bytes of the format.
-    assert_eq!(rt; left(&mut source), Some(4652 - 20));
+    assert!(rt; run.left == Some(4652 - 20));
     Ok(())
 }
 
 #[test]
 fn sink_fills_up(rt: HostRuntime) -> Result<(), Fail> {
     let bytes = zeros(rt.alloc(), 1, [0x44, 0xAC], 1)?;
-    let (status, sink, notes, _) = alone(
-        &rt,
-        &["encode", "--workers", "0"],
-        bytes.as_slice(),
-        100,
-        &[],
-    )?;
-    assert_eq!(rt; status, Some(Status::WriteFault));
-    let mut front = [0; 100];
-    front[..4].copy_from_slice(&[0xFF, 0xFB, 0x90, 0xC0]);
-    assert_eq!(rt; sink.bytes(), front.as_slice());
-    assert_eq!(rt; notes.bytes(), b"mp3enc: write fault\n".as_slice());
+    let run = alone(&rt, &["encode", "--workers", "0"], bytes.as_slice(), 100, &[])?;
+    let stream = zero_sample();
+    assert!(rt; run.ended(Status::WriteFault, &stream[..100], b"mp3enc: write fault\n"));
     Ok(())
 }
 
@@ -426,44 +336,16 @@ fn sink_fills_up(rt: HostRuntime) -> Result<(), Fail> {
 fn check_of_fronts(rt: HostRuntime) -> Result<(), Fail> {
     // Of so many bytes of the stream of one zero sample, the status, what is written and what notes
     // are told.
-    for (length, status, line, text) in [
-        (
-            0,
-            Status::Ok,
-            b"frames 0 bits 0\n".as_slice(),
-            b"".as_slice(),
-        ),
-        (
-            1,
-            Status::BadStream,
-            b"".as_slice(),
-            b"mp3enc: stream: ShortFrame at 0\n".as_slice(),
-        ),
-        (
-            417,
-            Status::Ok,
-            b"frames 1 bits 0\n".as_slice(),
-            b"".as_slice(),
-        ),
-        (
-            834,
-            Status::BadStream,
-            b"".as_slice(),
-            b"mp3enc: stream: ShortFrame at 417\n".as_slice(),
-        ),
-        (
-            835,
-            Status::Ok,
-            b"frames 2 bits 0\n".as_slice(),
-            b"".as_slice(),
-        ),
+    let stream = zero_sample();
+    for (length, status, line, told) in [
+        (0, Status::Ok, b"frames 0 bits 0\n".as_slice(), b"".as_slice()),
+        (1, Status::BadStream, b"", b"mp3enc: stream: ShortFrame at 0\n"),
+        (417, Status::Ok, b"frames 1 bits 0\n", b""),
+        (834, Status::BadStream, b"", b"mp3enc: stream: ShortFrame at 417\n"),
+        (835, Status::Ok, b"frames 2 bits 0\n", b""),
     ] {
-        let stream = zero_sample();
         let front = stream.get(..length).unwrap_or(&[]);
-        let (answer, sink, notes, _) = alone(&rt, &["check"], front, 100, &[])?;
-        assert_eq!(rt; answer, Some(status));
-        assert_eq!(rt; sink.bytes(), line);
-        assert_eq!(rt; notes.bytes(), text);
+        assert!(rt; checks(&rt, front, status, line, told)?);
     }
     Ok(())
 }
@@ -472,58 +354,28 @@ fn check_of_fronts(rt: HostRuntime) -> Result<(), Fail> {
 fn deviations_of_one_zero_sample(rt: HostRuntime) -> Result<(), Fail> {
     // With this byte of the stream of one zero sample changed to this one, what notes are told and
     // how many bytes are left.
-    for (at, byte, text, rest) in [
-        (
-            834,
-            0x01,
-            b"mp3enc: stream: NotZero at 6343\n".as_slice(),
-            0,
-        ),
-        (0, 0x00, b"mp3enc: stream: BadHeader at 0\n".as_slice(), 831),
-        (
-            422,
-            0x80,
-            b"mp3enc: stream: BadBegin at 417\n".as_slice(),
-            0,
-        ),
-        (422, 0x40, b"mp3enc: stream: BadSide at 417\n".as_slice(), 0),
-        (7, 0x04, b"mp3enc: stream: BadCode at 0\n".as_slice(), 418),
-        (
-            417,
-            0x00,
-            b"mp3enc: stream: BadHeader at 417\n".as_slice(),
-            414,
-        ),
+    for (at, byte, told, left) in [
+        (834, 0x01, b"mp3enc: stream: NotZero at 6343\n".as_slice(), 0),
+        (0, 0x00, b"mp3enc: stream: BadHeader at 0\n", 831),
+        (422, 0x80, b"mp3enc: stream: BadBegin at 417\n", 0),
+        (422, 0x40, b"mp3enc: stream: BadSide at 417\n", 0),
+        (7, 0x04, b"mp3enc: stream: BadCode at 0\n", 418),
+        (417, 0x00, b"mp3enc: stream: BadHeader at 417\n", 414),
     ] {
         let mut stream = zero_sample();
         stream[at] = byte;
-        let (answer, sink, notes, mut source) = alone(&rt, &["check"], &stream, 100, &[])?;
-        assert_eq!(rt; answer, Some(Status::BadStream));
-        assert_eq!(rt; sink.bytes().len(), 0);
-        assert_eq!(rt; notes.bytes(), text);
-        assert_eq!(rt; left(&mut source), Some(rest));
+        let run = alone(&rt, &["check"], &stream, 100, &[])?;
+        assert!(rt; run.ended(Status::BadStream, b"", told) && run.left == Some(left));
     }
     Ok(())
 }
 
 #[test]
-fn check_of_a_sine(rt: HostRuntime) -> Result<(), Fail> {
-    let (status, sink, _, _) = alone(&rt, &["check"], stream(), 100, &[])?;
-    assert_eq!(rt; status, Some(Status::Ok));
-    assert_eq!(rt; sink.bytes(), b"frames 4 bits 3616\n".as_slice());
-    Ok(())
-}
-
-#[test]
 fn check_with_faults(rt: HostRuntime) -> Result<(), Fail> {
-    let (status, sink, notes, _) = alone(&rt, &["check"], &zero_sample(), 100, &[7])?;
-    assert_eq!(rt; status, Some(Status::ReadFault));
-    assert_eq!(rt; sink.bytes().len(), 0);
-    assert_eq!(rt; notes.bytes(), b"mp3enc: read fault\n".as_slice());
-    let (status, sink, notes, _) = alone(&rt, &["check"], &zero_sample(), 8, &[])?;
-    assert_eq!(rt; status, Some(Status::WriteFault));
-    assert_eq!(rt; sink.bytes(), b"frames 2".as_slice());
-    assert_eq!(rt; notes.bytes(), b"mp3enc: write fault\n".as_slice());
+    let run = alone(&rt, &["check"], &zero_sample(), 100, &[7])?;
+    assert!(rt; run.ended(Status::ReadFault, b"", b"mp3enc: read fault\n"));
+    let run = alone(&rt, &["check"], &zero_sample(), 8, &[])?;
+    assert!(rt; run.ended(Status::WriteFault, b"frames 2", b"mp3enc: write fault\n"));
     Ok(())
 }
 
@@ -531,40 +383,24 @@ fn check_with_faults(rt: HostRuntime) -> Result<(), Fail> {
 fn demo_of_one_frame(rt: HostRuntime) -> Result<(), Fail> {
     let line =
         b"frames 2 bytes 835 sha256 239a087f9534db4f34903a8e9f223ee9f85300d56a5cd08516f4694c0959df17\n";
-    let (status, sink, notes, mut source) = alone(
-        &rt,
-        &["demo", "1", "0", "--workers", "0"],
-        &HEAD,
-        100,
-        &[0],
-    )?;
-    assert_eq!(rt; status, Some(Status::Ok));
-    assert_eq!(rt; sink.bytes(), line.as_slice());
-    assert_eq!(rt; notes.bytes().len(), 0);
-    assert!(rt; left(&mut source).is_none());
-    let (status, sink, notes, _) = alone(
-        &rt,
-        &["demo", "1", "0", "--workers", "0"],
-        &HEAD,
-        8,
-        &[],
-    )?;
-    assert_eq!(rt; status, Some(Status::WriteFault));
-    assert_eq!(rt; sink.bytes(), b"frames 2".as_slice());
-    assert_eq!(rt; notes.bytes(), b"mp3enc: write fault\n".as_slice());
+    let words = ["demo", "1", "0", "--workers", "0"];
+    let run = alone(&rt, &words, &HEAD, 100, &[0])?;
+    // The source's first read, which fails, is still to come.
+    assert!(rt; run.ended(Status::Ok, line, b"") && run.left.is_none());
+    let run = alone(&rt, &words, &HEAD, 8, &[])?;
+    assert!(rt; run.ended(Status::WriteFault, b"frames 2", b"mp3enc: write fault\n"));
     Ok(())
+}
+
+// The line that tells how the program is used.
+fn usage() -> &'static [u8] {
+    b"mp3enc: usage: mp3enc encode, check or demo FRAMES SEED\n"
 }
 
 // Whether words are refused, with nothing read and nothing written.
 fn is_refused(rt: &HostRuntime, words: &[&str]) -> Result<bool, AllocError> {
-    let (status, sink, notes, mut source) = alone(rt, words, &HEAD, 10000, &[])?;
-    let usage = b"mp3enc: usage: mp3enc encode, check or demo FRAMES SEED\n";
-    Ok(
-        status == Some(Status::Usage)
-            && sink.bytes().is_empty()
-            && notes.bytes() == usage.as_slice()
-            && left(&mut source) == Some(44),
-    )
+    let run = alone(rt, words, &HEAD, 10000, &[])?;
+    Ok(run.ended(Status::Usage, b"", usage()) && run.left == Some(44))
 }
 
 #[test]
@@ -575,79 +411,65 @@ fn words_refused(rt: HostRuntime) -> Result<(), Fail> {
     Ok(())
 }
 
-#[test]
-fn arguments_that_are_no_words(rt: HostRuntime) -> Result<(), Fail> {
-    // Why there are none, the exit status and what notes are told.
-    for (why, code, text) in [
-        (
-            NoWords::NotText,
-            2,
-            b"mp3enc: usage: mp3enc encode, check or demo FRAMES SEED\n".as_slice(),
-        ),
-        (NoWords::Memory, 1, b"mp3enc: out of memory\n".as_slice()),
-    ] {
-        let alloc = rt.alloc();
-        let mut source = MemSource::new(alloc, &HEAD, 100, &[])?;
-        let mut sink = MemSink::new(alloc, 100, 300, &[])?;
-        let mut notes = MemSink::new(alloc, 100, 7, &[])?;
-        let answer = start(
-            &rt,
-            alloc,
-            Err(why),
-            &mut source,
-            &mut sink,
-            &mut notes,
-            Vec::new(alloc),
-            &OpenGate,
-        );
-        assert_eq!(rt; answer, ExitCode::from(code));
-        assert_eq!(rt; sink.bytes().len(), 0);
-        assert_eq!(rt; notes.bytes(), text);
-        assert_eq!(rt; left(&mut source), Some(44));
-    }
-    Ok(())
-}
-
-#[test]
-fn words_after_the_name(rt: HostRuntime) -> Result<(), Fail> {
-    let alloc = rt.alloc();
-    let mut source = MemSource::new(alloc, &zero_sample(), 100, &[])?;
+// Whether a start with these arguments, on these bytes and with no guesser, ends with this status,
+// writes just this, tells notes just that and leaves so many bytes.
+fn starts<R: Threads + Wait + Sync>(
+    rt: &R,
+    alloc: Global,
+    arguments: Result<Vec<String>, NoWords>,
+    bytes: &[u8],
+    status: u8,
+    written: &[u8],
+    told: &[u8],
+    rest: usize,
+) -> Result<bool, AllocError> {
+    let mut source = MemSource::new(alloc, bytes, 100, &[])?;
     let mut sink = MemSink::new(alloc, 100, 300, &[])?;
     let mut notes = MemSink::new(alloc, 100, 7, &[])?;
-    let mut arguments = Vec::new(alloc);
-    arguments.push(String::from_str(alloc, "encode")?)?;
-    arguments.push(String::from_str(alloc, "check")?)?;
     let answer = start(
-        &rt,
+        rt,
         alloc,
-        Ok(arguments),
+        arguments,
         &mut source,
         &mut sink,
         &mut notes,
         Vec::new(alloc),
         &OpenGate,
     );
-    assert_eq!(rt; answer, ExitCode::SUCCESS);
-    assert_eq!(rt; sink.bytes(), b"frames 2 bits 0\n".as_slice());
+    Ok(answer == ExitCode::from(status)
+        && sink.bytes() == written
+        && notes.bytes() == told
+        && left(&mut source) == Some(rest))
+}
+
+#[test]
+fn arguments_that_are_no_words(rt: HostRuntime) -> Result<(), Fail> {
+    let alloc = rt.alloc();
+    let memory = b"mp3enc: out of memory\n";
+    assert!(rt; starts(&rt, alloc, Err(NoWords::NotText), &HEAD, 2, b"", usage(), 44)?);
+    assert!(rt; starts(&rt, alloc, Err(NoWords::Memory), &HEAD, 1, b"", memory, 44)?);
+    Ok(())
+}
+
+#[test]
+fn words_after_the_name(rt: HostRuntime) -> Result<(), Fail> {
+    let alloc = rt.alloc();
+    let mut arguments = Vec::new(alloc);
+    arguments.push(String::from_str(alloc, "encode")?)?;
+    arguments.push(String::from_str(alloc, "check")?)?;
+    assert!(rt; starts(&rt, alloc, Ok(arguments), &zero_sample(), 0, b"frames 2 bits 0\n", b"", 0)?);
     Ok(())
 }
 
 #[test]
 fn workers_change_no_byte(rt: HostRuntime) -> Result<(), Fail> {
-    let zero = zeros(rt.alloc(), 1, [0x44, 0xAC], 1)?;
-    let (status, sink) = with_three(
-        &rt,
-        rt.alloc(),
-        &["encode", "--workers", "2"],
-        zero.as_slice(),
-    )?;
-    assert_eq!(rt; status, Status::Ok);
-    assert_eq!(rt; sink.bytes(), zero_sample().as_slice());
-    let sine = sine_file(rt.alloc())?;
+    let (zero, sine) = (zeros(rt.alloc(), 1, [0x44, 0xAC], 1)?, sine_file(rt.alloc())?);
+    let words = ["encode", "--workers", "2"];
+    let guessers = three(rt.alloc())?;
+    assert!(rt; gives(&rt, rt.alloc(), &words, zero.as_slice(), guessers, Status::Ok, &zero_sample())?);
     let words = ["encode", "--rate", "32", "--workers", "2"];
-    let (status, sink) = with_three(&rt, rt.alloc(), &words, sine.as_slice())?;
-    assert_eq!(rt; status, Status::Ok);
-    assert_eq!(rt; sink.bytes(), stream());
+    let guessers = three(rt.alloc())?;
+    assert!(rt; gives(&rt, rt.alloc(), &words, sine.as_slice(), guessers, Status::Ok, stream())?);
     Ok(())
 }
 
@@ -659,44 +481,29 @@ fn demo_line() -> &'static [u8] {
 
 #[test]
 fn guesses_change_no_byte(rt: HostRuntime) -> Result<(), Fail> {
-    for guess in ["0", "1", "2", "3"] {
-        let words = [
-            "demo",
-            "100",
-            "7",
-            "--workers",
-            "2",
-            "--ahead",
-            "2",
-            "--guess",
-            guess,
-        ];
-        let (status, sink) = with_three(&rt, rt.alloc(), &words, &[])?;
-        assert_eq!(rt; status, Status::Ok);
-        assert_eq!(rt; sink.bytes(), demo_line());
-    }
     let alloc = rt.alloc();
+    for guess in ["0", "1", "2", "3"] {
+        let words = ["demo", "100", "7", "--workers", "2", "--ahead", "2", "--guess", guess];
+        assert!(rt; gives(&rt, alloc, &words, &[], three(alloc)?, Status::Ok, demo_line())?);
+    }
     let mut guessers: Vec<Box<dyn Guesser>> = Vec::new(alloc);
     guessers.push(Box::new(alloc, Flat::new(u32::MAX))?)?;
     let words = ["demo", "100", "7", "--workers", "1", "--ahead", "2"];
-    let (status, sink) = with_guessers(&rt, rt.alloc(), &words, &[], guessers)?;
-    assert_eq!(rt; status, Status::Ok);
-    assert_eq!(rt; sink.bytes(), demo_line());
+    assert!(rt; gives(&rt, alloc, &words, &[], guessers, Status::Ok, demo_line())?);
     Ok(())
 }
 
 #[test]
 fn guesses_of_no_guesser(rt: HostRuntime) -> Result<(), Fail> {
-    let (status, _) = with_three(&rt, rt.alloc(), &["encode", "--guess", "4"], &HEAD)?;
-    assert_eq!(rt; status, Status::Usage);
+    let alloc = rt.alloc();
+    let fourth = ["encode", "--guess", "4"];
+    assert!(rt; gives(&rt, alloc, &fourth, &HEAD, three(alloc)?, Status::Usage, b"")?);
+    let none = Vec::new(alloc);
+    assert!(rt; gives(&rt, alloc, &["encode", "--guess", "0"], &HEAD, none, Status::Usage, b"")?);
     let words = ["encode", "--workers", "0", "--guess", "4"];
-    let (status, _) = with_three(&rt, rt.alloc(), &words, &HEAD)?;
-    assert_eq!(rt; status, Status::Ok);
-    let none = Vec::new(rt.alloc());
-    let (status, _) = with_guessers(&rt, rt.alloc(), &["encode", "--guess", "0"], &HEAD, none)?;
-    assert_eq!(rt; status, Status::Usage);
-    let (status, sink, notes, _) = alone(&rt, &["encode", "--guess", "4"], &HEAD, 100, &[0])?;
-    assert_eq!(rt; status, None);
-    assert_eq!(rt; (sink.bytes().len(), notes.bytes().len()), (0, 0));
+    assert!(rt; gives(&rt, alloc, &words, &HEAD, three(alloc)?, Status::Ok, b"")?);
+    let run = alone(&rt, &fourth, &HEAD, 100, &[])?;
+    assert!(rt; run.status.is_none() && run.sink.bytes().is_empty() && run.notes.bytes().is_empty());
+    assert!(rt; run.left == Some(44));
     Ok(())
 }
