@@ -19,6 +19,10 @@ use std::thread::Threads;
 const HEAD: [u8; 44] =
     *b"RIFF\x24\0\0\0WAVEfmt \x10\0\0\0\x01\0\x01\0\x44\xAC\0\0\x88\x58\x01\0\x02\0\x10\0data\0\0\0\0";
 
+// The same with one sample of 0.
+const ZERO_SAMPLE: [u8; 46] =
+    *b"RIFF\x26\0\0\0WAVEfmt \x10\0\0\0\x01\0\x01\0\x44\xAC\0\0\x88\x58\x01\0\x02\0\x10\0data\x02\0\0\0\0\0";
+
 // As ffmpeg writes to a pipe: sizes that say nothing, and a comment before the data.
 const FROM_A_PIPE: &[u8] =
     b"RIFF\xFF\xFF\xFF\xFFWAVEfmt \x10\0\0\0\x01\0\x02\0\x44\xAC\0\0\x10\xB1\x02\0\x04\0\x10\0LIST\x1A\0\0\0INFOISFT\x0E\0\0\0Lavf59.27.100\0data\xFF\xFF\xFF\xFF";
@@ -111,21 +115,60 @@ fn alone(
     })
 }
 
+// Whether such a run ends so, writes just these bytes and tells notes just these.
+fn ends(
+    rt: &HostRuntime,
+    words: &[&str],
+    bytes: &[u8],
+    room: usize,
+    fails: &[u64],
+    status: Status,
+    written: &[u8],
+    told: &[u8],
+) -> bool {
+    match alone(rt, words, bytes, room, fails) {
+        Ok(run) => run.ended(status, written, told),
+        Err(_) => false,
+    }
+}
+
+// Whether such a run, of a source that does not fail, ends so and leaves so many bytes, with nothing
+// written.
+fn refuses(
+    rt: &HostRuntime,
+    words: &[&str],
+    bytes: &[u8],
+    status: Status,
+    told: &[u8],
+    left: usize,
+) -> bool {
+    match alone(rt, words, bytes, 10000, &[]) {
+        Ok(run) => run.ended(status, b"", told) && run.left == Some(left),
+        Err(_) => false,
+    }
+}
+
 // An encoding at this rate on one thread, of a source that does not fail.
 fn encoded(rt: &HostRuntime, rate: &str, bytes: &[u8]) -> Result<Run, AllocError> {
     let words = ["encode", "--rate", rate, "--workers", "0"];
     alone(rt, &words, bytes, 1000000, &[])
 }
 
-// Whether a check of these bytes ends so, writes just this line and tells notes just this one.
-fn checks(
+// The encoding of a file of so many zeros.
+fn encoded_zeros(
     rt: &HostRuntime,
-    bytes: &[u8],
-    status: Status,
-    line: &[u8],
-    told: &[u8],
-) -> Result<bool, AllocError> {
-    Ok(alone(rt, &["check"], bytes, 100, &[])?.ended(status, line, told))
+    rate: &str,
+    channels: u8,
+    hertz: [u8; 2],
+    values: u16,
+) -> Result<Run, AllocError> {
+    let bytes = zeros(rt.alloc(), channels, hertz, values)?;
+    encoded(rt, rate, bytes.as_slice())
+}
+
+// Whether a check of these bytes ends so, writes just this line and tells notes just this one.
+fn checks(rt: &HostRuntime, bytes: &[u8], status: Status, line: &[u8], told: &[u8]) -> bool {
+    ends(rt, &["check"], bytes, 100, &[], status, line, told)
 }
 
 // How a run with these guessers ends, and what a sink took of it, with a counter of its own.
@@ -168,9 +211,11 @@ fn gives<R: Threads + Wait + Sync>(
     guessers: Vec<Box<dyn Guesser>>,
     status: Status,
     written: &[u8],
-) -> Result<bool, AllocError> {
-    let (answer, sink) = counted::<Brand, R>(rt, alloc, words, bytes, guessers, Blank::new(1))?;
-    Ok(answer == status && sink.bytes() == written)
+) -> bool {
+    match counted::<Brand, R>(rt, alloc, words, bytes, guessers, Blank::new(1)) {
+        Ok((answer, sink)) => answer == status && sink.bytes() == written,
+        Err(_) => false,
+    }
 }
 
 // The guessers of the program.
@@ -182,37 +227,47 @@ fn three(alloc: Global) -> Result<Vec<Box<dyn Guesser>>, AllocError> {
     Ok(guessers)
 }
 
+// Whether a run with these ends so and writes just these bytes.
+fn gives_by_three<R: Threads + Wait + Sync>(
+    rt: &R,
+    alloc: Global,
+    words: &[&str],
+    bytes: &[u8],
+    status: Status,
+    written: &[u8],
+) -> bool {
+    match three(alloc) {
+        Ok(guessers) => gives(rt, alloc, words, bytes, guessers, status, written),
+        Err(_) => false,
+    }
+}
+
 #[test]
-fn one_zero_sample(rt: HostRuntime) -> Result<(), Fail> {
-    let bytes = zeros(rt.alloc(), 1, [0x44, 0xAC], 1)?;
-    let run = alone(&rt, &["encode", "--workers", "0"], bytes.as_slice(), 10000, &[])?;
-    assert!(rt; run.ended(Status::Ok, &zero_sample(), b""));
+fn one_zero_sample(rt: HostRuntime) {
+    let (stream, line) = (zero_sample(), b"frames 2 tried 4 made 4 reused 0\n");
+    let words = ["encode", "--workers", "0"];
+    assert!(rt; ends(&rt, &words, &ZERO_SAMPLE, 10000, &[], Status::Ok, &stream, b""));
     let words = ["encode", "--workers", "0", "--guess", "4", "--stats"];
-    let run = alone(&rt, &words, bytes.as_slice(), 10000, &[])?;
-    assert!(rt; run.ended(Status::Ok, &zero_sample(), b"frames 2 tried 4 made 4 reused 0\n"));
-    Ok(())
+    assert!(rt; ends(&rt, &words, &ZERO_SAMPLE, 10000, &[], Status::Ok, &stream, line));
 }
 
 #[test]
 fn zeros_over_two_frames(rt: HostRuntime) -> Result<(), Fail> {
-    let bytes = zeros(rt.alloc(), 1, [0x44, 0xAC], 1153)?;
-    let run = encoded(&rt, "128", bytes.as_slice())?;
+    let run = encoded_zeros(&rt, "128", 1, [0x44, 0xAC], 1153)?;
     assert!(rt; run.began(417 + 418 + 418, &[]));
     assert!(rt; run.has_at(835, &[0xFF, 0xFB, 0x92, 0xC0, 0xFF, 0x80]));
     Ok(())
 }
 
 #[test]
-fn no_samples(rt: HostRuntime) -> Result<(), Fail> {
-    let run = encoded(&rt, "128", &HEAD)?;
-    assert!(rt; run.ended(Status::Ok, b"", b""));
-    Ok(())
+fn no_samples(rt: HostRuntime) {
+    let words = ["encode", "--workers", "0"];
+    assert!(rt; ends(&rt, &words, &HEAD, 10000, &[], Status::Ok, b"", b""));
 }
 
 #[test]
 fn reservoir_fills_at_32_kbit(rt: HostRuntime) -> Result<(), Fail> {
-    let bytes = zeros(rt.alloc(), 2, [0x80, 0xBB], 23040)?;
-    let run = encoded(&rt, "32", bytes.as_slice())?;
+    let run = encoded_zeros(&rt, "32", 2, [0x80, 0xBB], 23040)?;
     assert!(rt; run.began(11 * 96, &[]));
     // The nine bits of main_data_begin, with which a frame's side information begins.
     let begins = [0u16, 60, 120, 180, 240, 300, 360, 420, 480, 511, 511];
@@ -225,8 +280,7 @@ fn reservoir_fills_at_32_kbit(rt: HostRuntime) -> Result<(), Fail> {
 
 #[test]
 fn no_reservoir_at_320_kbit(rt: HostRuntime) -> Result<(), Fail> {
-    let bytes = zeros(rt.alloc(), 1, [0x44, 0xAC], 1)?;
-    let run = encoded(&rt, "0320", bytes.as_slice())?;
+    let run = encoded(&rt, "0320", &ZERO_SAMPLE)?;
     assert!(rt; run.began(1044 + 1045, &[0xFF, 0xFB, 0xE0, 0xC0, 0x00, 0x00]));
     assert!(rt; run.has_at(1044, &[0xFF, 0xFB, 0xE2, 0xC0, 0x00, 0x00]));
     Ok(())
@@ -246,9 +300,9 @@ fn sine_file(alloc: Global) -> Result<Vec<u8>, AllocError> {
 #[test]
 fn sine_at_32_kbit(rt: HostRuntime) -> Result<(), Fail> {
     let bytes = sine_file(rt.alloc())?;
-    let run = encoded(&rt, "32", bytes.as_slice())?;
-    assert!(rt; run.ended(Status::Ok, stream(), b""));
-    assert!(rt; checks(&rt, stream(), Status::Ok, b"frames 4 bits 3616\n", b"")?);
+    let words = ["encode", "--rate", "32", "--workers", "0"];
+    assert!(rt; ends(&rt, &words, bytes.as_slice(), 10000, &[], Status::Ok, stream(), b""));
+    assert!(rt; checks(&rt, stream(), Status::Ok, b"frames 4 bits 3616\n", b""));
     Ok(())
 }
 
@@ -270,9 +324,9 @@ fn impulse_at_128_kbit(rt: HostRuntime) -> Result<(), Fail> {
     if let Some(sample) = bytes.as_mut_slice().get_mut(1444..1446) {
         sample.copy_from_slice(&[0xFF, 0x7F]);
     }
-    let run = encoded(&rt, "128", bytes.as_slice())?;
-    assert!(rt; run.ended(Status::Ok, &impulse_stream(), b""));
-    assert!(rt; checks(&rt, &impulse_stream(), Status::Ok, b"frames 3 bits 4539\n", b"")?);
+    let (words, stream) = (["encode", "--workers", "0"], impulse_stream());
+    assert!(rt; ends(&rt, &words, bytes.as_slice(), 10000, &[], Status::Ok, &stream, b""));
+    assert!(rt; checks(&rt, &stream, Status::Ok, b"frames 3 bits 4539\n", b""));
     Ok(())
 }
 
@@ -286,12 +340,12 @@ fn ten_seconds_from_a_pipe(rt: HostRuntime) -> Result<(), Fail> {
     }
     let run = encoded(&rt, "128", bytes.as_slice())?;
     assert!(rt; run.began(160496, &[0xFF, 0xFB, 0x90, 0x00]));
-    assert!(rt; checks(&rt, run.sink.bytes(), Status::Ok, b"frames 384 bits 0\n", b"")?);
+    assert!(rt; checks(&rt, run.sink.bytes(), Status::Ok, b"frames 384 bits 0\n", b""));
     Ok(())
 }
 
 #[test]
-fn refused_heads(rt: HostRuntime) -> Result<(), Fail> {
+fn refused_heads(rt: HostRuntime) {
     // With this byte of the head changed to this one, the status, what notes are told and how many
     // bytes are left.
     let (bad, other) = (Status::BadWav, Status::Unsupported);
@@ -307,10 +361,9 @@ fn refused_heads(rt: HostRuntime) -> Result<(), Fail> {
     ] {
         let mut head = HEAD;
         head[at] = byte;
-        let run = encoded(&rt, "128", &head)?;
-        assert!(rt; run.ended(status, b"", told) && run.left == Some(left));
+        let words = ["encode", "--workers", "0"];
+        assert!(rt; refuses(&rt, &words, &head, status, told, left));
     }
-    Ok(())
 }
 
 #[test]
@@ -324,16 +377,14 @@ fn read_fails_in_the_data(rt: HostRuntime) -> Result<(), Fail> {
 }
 
 #[test]
-fn sink_fills_up(rt: HostRuntime) -> Result<(), Fail> {
-    let bytes = zeros(rt.alloc(), 1, [0x44, 0xAC], 1)?;
-    let run = alone(&rt, &["encode", "--workers", "0"], bytes.as_slice(), 100, &[])?;
-    let stream = zero_sample();
-    assert!(rt; run.ended(Status::WriteFault, &stream[..100], b"mp3enc: write fault\n"));
-    Ok(())
+fn sink_fills_up(rt: HostRuntime) {
+    let (stream, told) = (zero_sample(), b"mp3enc: write fault\n");
+    let words = ["encode", "--workers", "0"];
+    assert!(rt; ends(&rt, &words, &ZERO_SAMPLE, 100, &[], Status::WriteFault, &stream[..100], told));
 }
 
 #[test]
-fn check_of_fronts(rt: HostRuntime) -> Result<(), Fail> {
+fn check_of_fronts(rt: HostRuntime) {
     // Of so many bytes of the stream of one zero sample, the status, what is written and what notes
     // are told.
     let stream = zero_sample();
@@ -345,13 +396,12 @@ fn check_of_fronts(rt: HostRuntime) -> Result<(), Fail> {
         (835, Status::Ok, b"frames 2 bits 0\n", b""),
     ] {
         let front = stream.get(..length).unwrap_or(&[]);
-        assert!(rt; checks(&rt, front, status, line, told)?);
+        assert!(rt; checks(&rt, front, status, line, told));
     }
-    Ok(())
 }
 
 #[test]
-fn deviations_of_one_zero_sample(rt: HostRuntime) -> Result<(), Fail> {
+fn deviations_of_one_zero_sample(rt: HostRuntime) {
     // With this byte of the stream of one zero sample changed to this one, what notes are told and
     // how many bytes are left.
     for (at, byte, told, left) in [
@@ -364,19 +414,16 @@ fn deviations_of_one_zero_sample(rt: HostRuntime) -> Result<(), Fail> {
     ] {
         let mut stream = zero_sample();
         stream[at] = byte;
-        let run = alone(&rt, &["check"], &stream, 100, &[])?;
-        assert!(rt; run.ended(Status::BadStream, b"", told) && run.left == Some(left));
+        assert!(rt; refuses(&rt, &["check"], &stream, Status::BadStream, told, left));
     }
-    Ok(())
 }
 
 #[test]
-fn check_with_faults(rt: HostRuntime) -> Result<(), Fail> {
-    let run = alone(&rt, &["check"], &zero_sample(), 100, &[7])?;
-    assert!(rt; run.ended(Status::ReadFault, b"", b"mp3enc: read fault\n"));
-    let run = alone(&rt, &["check"], &zero_sample(), 8, &[])?;
-    assert!(rt; run.ended(Status::WriteFault, b"frames 2", b"mp3enc: write fault\n"));
-    Ok(())
+fn check_with_faults(rt: HostRuntime) {
+    let (stream, told) = (zero_sample(), b"mp3enc: read fault\n");
+    assert!(rt; ends(&rt, &["check"], &stream, 100, &[7], Status::ReadFault, b"", told));
+    let told = b"mp3enc: write fault\n";
+    assert!(rt; ends(&rt, &["check"], &stream, 8, &[], Status::WriteFault, b"frames 2", told));
 }
 
 #[test]
@@ -387,8 +434,8 @@ fn demo_of_one_frame(rt: HostRuntime) -> Result<(), Fail> {
     let run = alone(&rt, &words, &HEAD, 100, &[0])?;
     // The source's first read, which fails, is still to come.
     assert!(rt; run.ended(Status::Ok, line, b"") && run.left.is_none());
-    let run = alone(&rt, &words, &HEAD, 8, &[])?;
-    assert!(rt; run.ended(Status::WriteFault, b"frames 2", b"mp3enc: write fault\n"));
+    let told = b"mp3enc: write fault\n";
+    assert!(rt; ends(&rt, &words, &HEAD, 8, &[], Status::WriteFault, b"frames 2", told));
     Ok(())
 }
 
@@ -397,18 +444,11 @@ fn usage() -> &'static [u8] {
     b"mp3enc: usage: mp3enc encode, check or demo FRAMES SEED\n"
 }
 
-// Whether words are refused, with nothing read and nothing written.
-fn is_refused(rt: &HostRuntime, words: &[&str]) -> Result<bool, AllocError> {
-    let run = alone(rt, words, &HEAD, 10000, &[])?;
-    Ok(run.ended(Status::Usage, b"", usage()) && run.left == Some(44))
-}
-
 #[test]
-fn words_refused(rt: HostRuntime) -> Result<(), Fail> {
-    assert!(rt; is_refused(&rt, &[])?);
-    assert!(rt; is_refused(&rt, &["encode", "--rate", "100"])?);
-    assert!(rt; is_refused(&rt, &["demo", "0", "1"])?);
-    Ok(())
+fn words_refused(rt: HostRuntime) {
+    assert!(rt; refuses(&rt, &[], &HEAD, Status::Usage, usage(), 44));
+    assert!(rt; refuses(&rt, &["encode", "--rate", "100"], &HEAD, Status::Usage, usage(), 44));
+    assert!(rt; refuses(&rt, &["demo", "0", "1"], &HEAD, Status::Usage, usage(), 44));
 }
 
 // Whether a start with these arguments, on these bytes and with no guesser, ends with this status,
@@ -463,13 +503,10 @@ fn words_after_the_name(rt: HostRuntime) -> Result<(), Fail> {
 
 #[test]
 fn workers_change_no_byte(rt: HostRuntime) -> Result<(), Fail> {
-    let (zero, sine) = (zeros(rt.alloc(), 1, [0x44, 0xAC], 1)?, sine_file(rt.alloc())?);
-    let words = ["encode", "--workers", "2"];
-    let guessers = three(rt.alloc())?;
-    assert!(rt; gives(&rt, rt.alloc(), &words, zero.as_slice(), guessers, Status::Ok, &zero_sample())?);
-    let words = ["encode", "--rate", "32", "--workers", "2"];
-    let guessers = three(rt.alloc())?;
-    assert!(rt; gives(&rt, rt.alloc(), &words, sine.as_slice(), guessers, Status::Ok, stream())?);
+    let (alloc, words) = (rt.alloc(), ["encode", "--workers", "2"]);
+    assert!(rt; gives_by_three(&rt, alloc, &words, &ZERO_SAMPLE, Status::Ok, &zero_sample()));
+    let (sine, words) = (sine_file(alloc)?, ["encode", "--rate", "32", "--workers", "2"]);
+    assert!(rt; gives_by_three(&rt, alloc, &words, sine.as_slice(), Status::Ok, stream()));
     Ok(())
 }
 
@@ -480,29 +517,37 @@ fn demo_line() -> &'static [u8] {
 }
 
 #[test]
-fn guesses_change_no_byte(rt: HostRuntime) -> Result<(), Fail> {
-    let alloc = rt.alloc();
+fn guesses_change_no_byte(rt: HostRuntime) {
     for guess in ["0", "1", "2", "3"] {
         let words = ["demo", "100", "7", "--workers", "2", "--ahead", "2", "--guess", guess];
-        assert!(rt; gives(&rt, alloc, &words, &[], three(alloc)?, Status::Ok, demo_line())?);
+        assert!(rt; gives_by_three(&rt, rt.alloc(), &words, &[], Status::Ok, demo_line()));
     }
+}
+
+#[test]
+fn a_wrong_guess_changes_no_byte(rt: HostRuntime) -> Result<(), Fail> {
+    let alloc = rt.alloc();
     let mut guessers: Vec<Box<dyn Guesser>> = Vec::new(alloc);
     guessers.push(Box::new(alloc, Flat::new(u32::MAX))?)?;
     let words = ["demo", "100", "7", "--workers", "1", "--ahead", "2"];
-    assert!(rt; gives(&rt, alloc, &words, &[], guessers, Status::Ok, demo_line())?);
+    assert!(rt; gives(&rt, alloc, &words, &[], guessers, Status::Ok, demo_line()));
     Ok(())
 }
 
 #[test]
-fn guesses_of_no_guesser(rt: HostRuntime) -> Result<(), Fail> {
+fn guesses_of_no_guesser(rt: HostRuntime) {
     let alloc = rt.alloc();
     let fourth = ["encode", "--guess", "4"];
-    assert!(rt; gives(&rt, alloc, &fourth, &HEAD, three(alloc)?, Status::Usage, b"")?);
-    let none = Vec::new(alloc);
-    assert!(rt; gives(&rt, alloc, &["encode", "--guess", "0"], &HEAD, none, Status::Usage, b"")?);
+    assert!(rt; gives_by_three(&rt, alloc, &fourth, &HEAD, Status::Usage, b""));
     let words = ["encode", "--workers", "0", "--guess", "4"];
-    assert!(rt; gives(&rt, alloc, &words, &HEAD, three(alloc)?, Status::Ok, b"")?);
-    let run = alone(&rt, &fourth, &HEAD, 100, &[])?;
+    assert!(rt; gives_by_three(&rt, alloc, &words, &HEAD, Status::Ok, b""));
+    let all = ["encode", "--guess", "0"];
+    assert!(rt; gives(&rt, alloc, &all, &HEAD, Vec::new(alloc), Status::Usage, b""));
+}
+
+#[test]
+fn words_for_workers_are_left_by_one_thread(rt: HostRuntime) -> Result<(), Fail> {
+    let run = alone(&rt, &["encode", "--guess", "4"], &HEAD, 100, &[])?;
     assert!(rt; run.status.is_none() && run.sink.bytes().is_empty() && run.notes.bytes().is_empty());
     assert!(rt; run.left == Some(44));
     Ok(())
