@@ -83,7 +83,11 @@ impl Run {
 
     // Whether these bytes stand at this place of what it wrote.
     fn has_at(&self, at: usize, bytes: &[u8]) -> bool {
-        self.sink.bytes().get(at..).unwrap_or(&[]).starts_with(bytes)
+        self.sink
+            .bytes()
+            .get(at..)
+            .unwrap_or(&[])
+            .starts_with(bytes)
     }
 }
 
@@ -246,9 +250,31 @@ fn gives_by_three<R: Threads + Wait + Sync>(
 fn one_zero_sample(rt: HostRuntime) {
     let (stream, line) = (zero_sample(), b"frames 2 tried 4 made 4 reused 0\n");
     let words = ["encode", "--workers", "0"];
-    assert!(rt; ends(&rt, &words, &ZERO_SAMPLE, 10000, &[], Status::Ok, &stream, b""));
+    assert!(rt;
+        ends(
+            &rt,
+            &words,
+            &ZERO_SAMPLE,
+            10000,
+            &[],
+            Status::Ok,
+            &stream,
+            b""
+        )
+    );
     let words = ["encode", "--workers", "0", "--guess", "4", "--stats"];
-    assert!(rt; ends(&rt, &words, &ZERO_SAMPLE, 10000, &[], Status::Ok, &stream, line));
+    assert!(rt;
+        ends(
+            &rt,
+            &words,
+            &ZERO_SAMPLE,
+            10000,
+            &[],
+            Status::Ok,
+            &stream,
+            line
+        )
+    );
 }
 
 #[test]
@@ -301,7 +327,18 @@ fn sine_file(alloc: Global) -> Result<Vec<u8>, AllocError> {
 fn sine_at_32_kbit(rt: HostRuntime) -> Result<(), Fail> {
     let bytes = sine_file(rt.alloc())?;
     let words = ["encode", "--rate", "32", "--workers", "0"];
-    assert!(rt; ends(&rt, &words, bytes.as_slice(), 10000, &[], Status::Ok, stream(), b""));
+    assert!(rt;
+        ends(
+            &rt,
+            &words,
+            bytes.as_slice(),
+            10000,
+            &[],
+            Status::Ok,
+            stream(),
+            b""
+        )
+    );
     assert!(rt; checks(&rt, stream(), Status::Ok, b"frames 4 bits 3616\n", b""));
     Ok(())
 }
@@ -325,7 +362,18 @@ fn impulse_at_128_kbit(rt: HostRuntime) -> Result<(), Fail> {
         sample.copy_from_slice(&[0xFF, 0x7F]);
     }
     let (words, stream) = (["encode", "--workers", "0"], impulse_stream());
-    assert!(rt; ends(&rt, &words, bytes.as_slice(), 10000, &[], Status::Ok, &stream, b""));
+    assert!(rt;
+        ends(
+            &rt,
+            &words,
+            bytes.as_slice(),
+            10000,
+            &[],
+            Status::Ok,
+            &stream,
+            b""
+        )
+    );
     assert!(rt; checks(&rt, &stream, Status::Ok, b"frames 3 bits 4539\n", b""));
     Ok(())
 }
@@ -340,7 +388,15 @@ fn ten_seconds_from_a_pipe(rt: HostRuntime) -> Result<(), Fail> {
     }
     let run = encoded(&rt, "128", bytes.as_slice())?;
     assert!(rt; run.began(160496, &[0xFF, 0xFB, 0x90, 0x00]));
-    assert!(rt; checks(&rt, run.sink.bytes(), Status::Ok, b"frames 384 bits 0\n", b""));
+    assert!(rt;
+        checks(
+            &rt,
+            run.sink.bytes(),
+            Status::Ok,
+            b"frames 384 bits 0\n",
+            b""
+        )
+    );
     Ok(())
 }
 
@@ -369,7 +425,13 @@ fn refused_heads(rt: HostRuntime) {
 #[test]
 fn read_fails_in_the_data(rt: HostRuntime) -> Result<(), Fail> {
     let bytes = zeros(rt.alloc(), 2, [0x44, 0xAC], 2304)?;
-    let run = alone(&rt, &["encode", "--workers", "0"], bytes.as_slice(), 10000, &[2])?;
+    let run = alone(
+        &rt,
+        &["encode", "--workers", "0"],
+        bytes.as_slice(),
+        10000,
+        &[2],
+    )?;
     assert!(rt; run.ended(Status::ReadFault, b"", b"mp3enc: read fault\n"));
     // The third read is that of the 16 bytes of the format.
     assert!(rt; run.left == Some(4652 - 20));
@@ -378,9 +440,21 @@ fn read_fails_in_the_data(rt: HostRuntime) -> Result<(), Fail> {
 
 #[test]
 fn sink_fills_up(rt: HostRuntime) {
-    let (stream, told) = (zero_sample(), b"mp3enc: write fault\n");
+    let stream = zero_sample();
+    let (front, told) = (stream.get(..100).unwrap_or(&[]), b"mp3enc: write fault\n");
     let words = ["encode", "--workers", "0"];
-    assert!(rt; ends(&rt, &words, &ZERO_SAMPLE, 100, &[], Status::WriteFault, &stream[..100], told));
+    assert!(rt;
+        ends(
+            &rt,
+            &words,
+            &ZERO_SAMPLE,
+            100,
+            &[],
+            Status::WriteFault,
+            front,
+            told
+        )
+    );
 }
 
 #[test]
@@ -389,10 +463,25 @@ fn check_of_fronts(rt: HostRuntime) {
     // are told.
     let stream = zero_sample();
     for (length, status, line, told) in [
-        (0, Status::Ok, b"frames 0 bits 0\n".as_slice(), b"".as_slice()),
-        (1, Status::BadStream, b"", b"mp3enc: stream: ShortFrame at 0\n"),
+        (
+            0,
+            Status::Ok,
+            b"frames 0 bits 0\n".as_slice(),
+            b"".as_slice(),
+        ),
+        (
+            1,
+            Status::BadStream,
+            b"",
+            b"mp3enc: stream: ShortFrame at 0\n",
+        ),
         (417, Status::Ok, b"frames 1 bits 0\n", b""),
-        (834, Status::BadStream, b"", b"mp3enc: stream: ShortFrame at 417\n"),
+        (
+            834,
+            Status::BadStream,
+            b"",
+            b"mp3enc: stream: ShortFrame at 417\n",
+        ),
         (835, Status::Ok, b"frames 2 bits 0\n", b""),
     ] {
         let front = stream.get(..length).unwrap_or(&[]);
@@ -405,7 +494,12 @@ fn deviations_of_one_zero_sample(rt: HostRuntime) {
     // With this byte of the stream of one zero sample changed to this one, what notes are told and
     // how many bytes are left.
     for (at, byte, told, left) in [
-        (834, 0x01, b"mp3enc: stream: NotZero at 6343\n".as_slice(), 0),
+        (
+            834,
+            0x01,
+            b"mp3enc: stream: NotZero at 6343\n".as_slice(),
+            0,
+        ),
         (0, 0x00, b"mp3enc: stream: BadHeader at 0\n", 831),
         (422, 0x80, b"mp3enc: stream: BadBegin at 417\n", 0),
         (422, 0x40, b"mp3enc: stream: BadSide at 417\n", 0),
@@ -421,9 +515,31 @@ fn deviations_of_one_zero_sample(rt: HostRuntime) {
 #[test]
 fn check_with_faults(rt: HostRuntime) {
     let (stream, told) = (zero_sample(), b"mp3enc: read fault\n");
-    assert!(rt; ends(&rt, &["check"], &stream, 100, &[7], Status::ReadFault, b"", told));
+    assert!(rt;
+        ends(
+            &rt,
+            &["check"],
+            &stream,
+            100,
+            &[7],
+            Status::ReadFault,
+            b"",
+            told
+        )
+    );
     let told = b"mp3enc: write fault\n";
-    assert!(rt; ends(&rt, &["check"], &stream, 8, &[], Status::WriteFault, b"frames 2", told));
+    assert!(rt;
+        ends(
+            &rt,
+            &["check"],
+            &stream,
+            8,
+            &[],
+            Status::WriteFault,
+            b"frames 2",
+            told
+        )
+    );
 }
 
 #[test]
@@ -435,7 +551,18 @@ fn demo_of_one_frame(rt: HostRuntime) -> Result<(), Fail> {
     // The source's first read, which fails, is still to come.
     assert!(rt; run.ended(Status::Ok, line, b"") && run.left.is_none());
     let told = b"mp3enc: write fault\n";
-    assert!(rt; ends(&rt, &words, &HEAD, 8, &[], Status::WriteFault, b"frames 2", told));
+    assert!(rt;
+        ends(
+            &rt,
+            &words,
+            &HEAD,
+            8,
+            &[],
+            Status::WriteFault,
+            b"frames 2",
+            told
+        )
+    );
     Ok(())
 }
 
@@ -447,7 +574,16 @@ fn usage() -> &'static [u8] {
 #[test]
 fn words_refused(rt: HostRuntime) {
     assert!(rt; refuses(&rt, &[], &HEAD, Status::Usage, usage(), 44));
-    assert!(rt; refuses(&rt, &["encode", "--rate", "100"], &HEAD, Status::Usage, usage(), 44));
+    assert!(rt;
+        refuses(
+            &rt,
+            &["encode", "--rate", "100"],
+            &HEAD,
+            Status::Usage,
+            usage(),
+            44
+        )
+    );
     assert!(rt; refuses(&rt, &["demo", "0", "1"], &HEAD, Status::Usage, usage(), 44));
 }
 
@@ -476,17 +612,30 @@ fn starts<R: Threads + Wait + Sync>(
         Vec::new(alloc),
         &OpenGate,
     );
-    Ok(answer == ExitCode::from(status)
-        && sink.bytes() == written
-        && notes.bytes() == told
-        && left(&mut source) == Some(rest))
+    Ok(
+        answer == ExitCode::from(status)
+            && sink.bytes() == written
+            && notes.bytes() == told
+            && left(&mut source) == Some(rest),
+    )
 }
 
 #[test]
 fn arguments_that_are_no_words(rt: HostRuntime) -> Result<(), Fail> {
     let alloc = rt.alloc();
     let memory = b"mp3enc: out of memory\n";
-    assert!(rt; starts(&rt, alloc, Err(NoWords::NotText), &HEAD, 2, b"", usage(), 44)?);
+    assert!(rt;
+        starts(
+            &rt,
+            alloc,
+            Err(NoWords::NotText),
+            &HEAD,
+            2,
+            b"",
+            usage(),
+            44
+        )?
+    );
     assert!(rt; starts(&rt, alloc, Err(NoWords::Memory), &HEAD, 1, b"", memory, 44)?);
     Ok(())
 }
@@ -497,7 +646,18 @@ fn words_after_the_name(rt: HostRuntime) -> Result<(), Fail> {
     let mut arguments = Vec::new(alloc);
     arguments.push(String::from_str(alloc, "encode")?)?;
     arguments.push(String::from_str(alloc, "check")?)?;
-    assert!(rt; starts(&rt, alloc, Ok(arguments), &zero_sample(), 0, b"frames 2 bits 0\n", b"", 0)?);
+    assert!(rt;
+        starts(
+            &rt,
+            alloc,
+            Ok(arguments),
+            &zero_sample(),
+            0,
+            b"frames 2 bits 0\n",
+            b"",
+            0
+        )?
+    );
     Ok(())
 }
 
@@ -505,7 +665,10 @@ fn words_after_the_name(rt: HostRuntime) -> Result<(), Fail> {
 fn workers_change_no_byte(rt: HostRuntime) -> Result<(), Fail> {
     let (alloc, words) = (rt.alloc(), ["encode", "--workers", "2"]);
     assert!(rt; gives_by_three(&rt, alloc, &words, &ZERO_SAMPLE, Status::Ok, &zero_sample()));
-    let (sine, words) = (sine_file(alloc)?, ["encode", "--rate", "32", "--workers", "2"]);
+    let (sine, words) = (
+        sine_file(alloc)?,
+        ["encode", "--rate", "32", "--workers", "2"],
+    );
     assert!(rt; gives_by_three(&rt, alloc, &words, sine.as_slice(), Status::Ok, stream()));
     Ok(())
 }
@@ -519,7 +682,17 @@ fn demo_line() -> &'static [u8] {
 #[test]
 fn guesses_change_no_byte(rt: HostRuntime) {
     for guess in ["0", "1", "2", "3"] {
-        let words = ["demo", "100", "7", "--workers", "2", "--ahead", "2", "--guess", guess];
+        let words = [
+            "demo",
+            "100",
+            "7",
+            "--workers",
+            "2",
+            "--ahead",
+            "2",
+            "--guess",
+            guess,
+        ];
         assert!(rt; gives_by_three(&rt, rt.alloc(), &words, &[], Status::Ok, demo_line()));
     }
 }
@@ -548,7 +721,9 @@ fn guesses_of_no_guesser(rt: HostRuntime) {
 #[test]
 fn words_for_workers_are_left_by_one_thread(rt: HostRuntime) -> Result<(), Fail> {
     let run = alone(&rt, &["encode", "--guess", "4"], &HEAD, 100, &[])?;
-    assert!(rt; run.status.is_none() && run.sink.bytes().is_empty() && run.notes.bytes().is_empty());
+    assert!(rt;
+        run.status.is_none() && run.sink.bytes().is_empty() && run.notes.bytes().is_empty()
+    );
     assert!(rt; run.left == Some(44));
     Ok(())
 }
