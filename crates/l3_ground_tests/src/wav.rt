@@ -1,6 +1,6 @@
-use crate::{Samples, WavFault, WavHead, open};
 use l3_base::{Channels, Failed, ReadFault, SampleRate};
 use l3_io::{MemSource, Source};
+use l3_wav::{Samples, WavFault, WavHead, open};
 use std::test::Fail;
 
 // One zero sample, mono, 44100 Hz.

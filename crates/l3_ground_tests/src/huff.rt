@@ -1,9 +1,9 @@
 ghost use Rattle.std.specs.Prelude.{◌≤◌};
 
-use crate::{
+use l3_bits::put_bits;
+use l3_huff::{
     Code, QuadTable, holds, pair_bits, pair_code, quad_bits, quad_code, read_pair, read_quad,
 };
-use l3_bits::put_bits;
 use std::process::Abort;
 
 // Where the codes begin in the bytes of the tests.

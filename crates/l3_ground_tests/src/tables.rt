@@ -1,4 +1,4 @@
-use crate::{ca, cs, edge, k64, k72, quarter, w};
+use l3_tables::{ca, cs, edge, k64, k72, quarter, w};
 
 // Entries beyond the printed ones, worked out by hand from the printed table and its three rules.
 #[test]
