@@ -15,6 +15,8 @@ mod huff;
 #[cfg(test)]
 mod io;
 #[cfg(test)]
+mod memory;
+#[cfg(test)]
 mod tables;
 #[cfg(test)]
 mod wav;
