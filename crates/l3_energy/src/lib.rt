@@ -13,6 +13,3 @@ mod laws;
 
 pub use energy::{demand, energies};
 pub use laws::demand_laws;
-
-#[cfg(test)]
-mod tests;

@@ -27,6 +27,3 @@ pub use laws::{one_code, pair_length, pair_reading, quad_reading};
 pub use pairs::{code_length, holds, is_table, linbits, pair_bits, pair_code};
 pub use quads::{QuadTable, quad_bits, quad_code};
 pub use reading::{read_pair, read_quad};
-
-#[cfg(test)]
-mod tests;

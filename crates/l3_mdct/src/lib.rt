@@ -18,6 +18,3 @@ mod transform;
 pub use fold::fold36;
 pub use laws::spectrum_laws;
 pub use transform::spectrum;
-
-#[cfg(test)]
-mod tests;

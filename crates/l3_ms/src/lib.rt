@@ -13,6 +13,3 @@ mod turning;
 
 pub use demands::prefer;
 pub use turning::turn;
-
-#[cfg(test)]
-mod tests;

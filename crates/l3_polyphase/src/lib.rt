@@ -19,6 +19,3 @@ mod subbands;
 pub use filterbank::{slot, slots36};
 pub use fold::fold64;
 pub use kept::Kept;
-
-#[cfg(test)]
-mod tests;

@@ -27,6 +27,3 @@ pub use products::add_product;
 pub use rates::{RATES, rate_sums};
 pub use sums::sum_laws;
 pub use window::{WINDOW, w, window_laws, window_sums};
-
-#[cfg(test)]
-mod tests;

@@ -16,6 +16,3 @@ pub use fault::WavFault;
 pub use head::{WavHead, open};
 pub use laws::{chunks_in_a_head, samples_of_a_file};
 pub use samples::Samples;
-
-#[cfg(test)]
-mod tests;

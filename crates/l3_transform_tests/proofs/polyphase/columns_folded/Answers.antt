@@ -1,8 +1,8 @@
 use Rattle.std.proofs.Common.{◌≤◌, pos, get_or, refl, arith}
 use Rattle.std.specs.Prelude.{unsigned_abs}
 use Rattle.l3_tables.proofs.Entries.{within_at}
-use Rattle.l3_polyphase.specs.declared.tests.TheConstants.{COLUMNS}
-use Rattle.l3_polyphase.proofs.tests.columns_folded.Goals as goal
+use Rattle.l3_transform_tests.specs.declared.polyphase.TheConstants.{COLUMNS}
+use Rattle.l3_transform_tests.proofs.polyphase.columns_folded.Goals as goal
 
 pub fold64-requires : goal.fold64-requires
 fold64-requires g c = λ k lt.

@@ -1,8 +1,8 @@
 use Rattle.std.proofs.Common.{◌≤◌, pos, get_or, refl, arith}
 use Rattle.std.specs.Prelude.{unsigned_abs}
 use Rattle.l3_tables.proofs.Entries.{within_at}
-use Rattle.l3_mdct.specs.declared.tests.TheConstants.{SQUARES}
-use Rattle.l3_mdct.proofs.tests.slots_folded.Goals as goal
+use Rattle.l3_transform_tests.specs.declared.mdct.TheConstants.{SQUARES}
+use Rattle.l3_transform_tests.proofs.mdct.slots_folded.Goals as goal
 
 pub fold36-requires : goal.fold36-requires
 fold36-requires g c = λ k lt.

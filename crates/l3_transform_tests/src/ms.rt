@@ -1,8 +1,10 @@
+//! Lines of middle and side, and their demands beside those of left and right.
+
 ghost use Rattle.std.specs.Prelude.{◌^◌, All};
 ghost use Rattle.l3_tables.specs.Sums.{IsWithin};
 
-use crate::{prefer, turn};
 use l3_base::Spectrum;
+use l3_ms::{prefer, turn};
 
 // A spectrum that is 0 but for line 0.
 fn one_line(x: i32) -> Spectrum
@@ -38,13 +40,11 @@ fn middle_and_side_lines(rt: HostRuntime) {
         (-268435456, -268435456, (-379617280, 0)),
     ];
     for (left, right, line) in cases {
-        assert_eq!(rt; turned(left, right), [line, (0, 0)], "of {left}, {right}");
+        assert!(rt; turned(left, right) == [line, (0, 0)], "of {left}, {right}");
     }
 }
 
 #[test]
 fn joint_demands(rt: HostRuntime) {
-    assert!(rt; prefer(7, 7, 7, 0));
-    assert!(rt; !prefer(7, 7, 7, 7));
-    assert!(rt; !prefer(0, 0, 0, 0));
+    assert!(rt; prefer(7, 7, 7, 0) && !prefer(7, 7, 7, 7) && !prefer(0, 0, 0, 0));
 }

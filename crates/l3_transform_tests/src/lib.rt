@@ -1,0 +1,15 @@
+//! The transforms: slots, spectra, middle and side, and demands, on worked inputs.
+//!
+//! Tests alone: values worked out apart from this source.
+//! Before: `l3_polyphase`, `l3_mdct`, `l3_ms` and `l3_energy`, which are tested here. After:
+//! nothing.
+#![tactic(auto)]
+
+#[cfg(test)]
+mod energy;
+#[cfg(test)]
+mod mdct;
+#[cfg(test)]
+mod ms;
+#[cfg(test)]
+mod polyphase;
