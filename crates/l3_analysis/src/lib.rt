@@ -19,6 +19,3 @@ pub use l3_search::{Count, Memo, Picked};
 pub use piece::Piece;
 pub use rounds::rounds_of_amplification;
 pub use stage::Stage;
-
-#[cfg(test)]
-mod tests;

@@ -18,8 +18,3 @@ pub use crate::board::Board;
 pub use crate::desk::DeskRecord;
 pub use crate::entry::Entry;
 pub use crate::lock::{LockBoard, LockDesk, LockSeat};
-
-#[cfg(test)]
-mod tests;
-#[cfg(test)]
-mod waking;

@@ -20,6 +20,3 @@ pub use crate::cell::Cell;
 pub use crate::event::{Answer, Claim, Deposit, Event, Offer, Take};
 pub use crate::item::Numbered;
 pub use crate::laws::laws_of_runs;
-
-#[cfg(test)]
-mod tests;

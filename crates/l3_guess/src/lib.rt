@@ -13,6 +13,3 @@ mod places;
 pub use guesser::{Chosen, Flat, Guesser, Last, Mean};
 pub use laws::{last_eight_kept, places_of_scores};
 pub use panel::{Panel, Standings};
-
-#[cfg(test)]
-mod tests;

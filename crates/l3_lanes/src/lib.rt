@@ -24,6 +24,3 @@ mod worker_steps;
 pub use crate::laws::{laws_of_the_history, laws_of_the_rule};
 pub use crate::seats::{LaneBoard, LaneDesk, LaneSeat};
 pub use crate::view::{Knowledge, Move, Past, Tell, View};
-
-#[cfg(test)]
-mod tests;

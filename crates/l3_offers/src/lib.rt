@@ -9,6 +9,3 @@ mod placed;
 
 pub use laws::fresh_desks;
 pub use placed::Offers;
-
-#[cfg(test)]
-mod tests;

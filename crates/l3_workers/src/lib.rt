@@ -18,6 +18,3 @@ pub use gate::{Gate, OpenGate};
 pub use job::analyse;
 pub use lanes::Lanes;
 pub use worker::{work, work_all};
-
-#[cfg(test)]
-mod tests;

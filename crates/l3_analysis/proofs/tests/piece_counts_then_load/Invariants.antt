@@ -1,4 +1,0 @@
-use Rattle.l3_analysis.proofs.tests.piece_counts_then_load.Given as goal
-
-abbrev pub ghosts-counts : goal.ghosts-counts
-ghosts-counts g a = record { name = a.blank.name; parts = a.blank.parts }
