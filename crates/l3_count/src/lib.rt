@@ -17,8 +17,3 @@ pub use counting::{count_at, count_over, count_zeros};
 pub use l3_region::{QuadTable, Regions, Split};
 pub use laws::counts_are_least;
 pub use memo::Memo;
-
-#[cfg(test)]
-mod plain;
-#[cfg(test)]
-mod tests;

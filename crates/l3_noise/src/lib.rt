@@ -19,6 +19,3 @@ pub use allowance::{allowed, over, raise};
 pub use bands::noise;
 pub use laws::scalefactor_laws;
 pub use scalefactors::{Part2, part2_of};
-
-#[cfg(test)]
-mod tests;

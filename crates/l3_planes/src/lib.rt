@@ -18,6 +18,3 @@ mod tables;
 mod unit;
 
 pub use unit::{Planes, classes_at, is_codable_at, no_planes, pairs_at, set, split_at};
-
-#[cfg(test)]
-mod tests;

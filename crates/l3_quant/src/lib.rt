@@ -26,8 +26,3 @@ pub use laws::{
 pub use peaks::line_peaks;
 pub use quantiser::{all, all_amp, line};
 pub use reconstruction::reconstruct;
-
-#[cfg(test)]
-mod plain;
-#[cfg(test)]
-mod tests;

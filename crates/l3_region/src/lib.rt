@@ -24,8 +24,3 @@ pub use l3_huff::QuadTable;
 pub use laws::fewest_bits;
 pub use regions::{Regions, best, best_of_pairs};
 pub use split::{Split, split_of, split_of_pairs};
-
-#[cfg(test)]
-mod plain;
-#[cfg(test)]
-mod tests;

@@ -11,6 +11,3 @@ mod reservoir;
 
 pub use laws::{borrowing_is_covered, frame_end_is_exact};
 pub use reservoir::{FrameEnd, Reserve};
-
-#[cfg(test)]
-mod tests;

@@ -12,6 +12,3 @@ mod search;
 pub use l3_count::{Count, Memo};
 pub use laws::pick_exists;
 pub use search::{Picked, pick};
-
-#[cfg(test)]
-mod tests;

@@ -1,4 +1,0 @@
-use Rattle.l3_count.proofs.tests.a_count_in_a_memo.Given as goal
-
-abbrev pub ghosts-count_one_line : goal.ghosts-count_one_line
-ghosts-count_one_line g a = record { name = a.blank.name; parts = a.blank.parts }

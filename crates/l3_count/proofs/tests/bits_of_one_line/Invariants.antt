@@ -1,4 +1,0 @@
-use Rattle.l3_count.proofs.tests.bits_of_one_line.Given as goal
-
-abbrev pub ghosts-count_one_line : goal.ghosts-count_one_line
-ghosts-count_one_line g a = record { name = a.blank.name; parts = a.blank.parts }
