@@ -15,6 +15,3 @@ mod slots;
 mod writer;
 
 pub use writer::FrameWriter;
-
-#[cfg(test)]
-mod tests;

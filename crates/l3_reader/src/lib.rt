@@ -20,6 +20,3 @@ mod units;
 pub use frame_reader::FrameReader;
 pub use l3_stream::StreamFault;
 pub use stream::{Stream, read_stream};
-
-#[cfg(test)]
-mod tests;

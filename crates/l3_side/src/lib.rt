@@ -14,6 +14,3 @@ mod writing;
 pub use header::{read_header, write_header};
 pub use reading::read_side;
 pub use writing::write_side;
-
-#[cfg(test)]
-mod tests;

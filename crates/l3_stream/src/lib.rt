@@ -27,6 +27,3 @@ pub use laws::{
 };
 pub use regions::{Regions, first_line};
 pub use unit::{ChosenFrame, Unit, four_from, granule_length, two_from};
-
-#[cfg(test)]
-mod tests;

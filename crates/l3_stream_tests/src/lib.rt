@@ -1,0 +1,17 @@
+//! Units and frames <-> bytes: the tests of the crates that write a stream and read it.
+//!
+//! Headers, side information and codes are compared with bytes that were worked out by hand from
+//! the syntax (ISO/IEC 11172-3, clause 2.4).
+//! Before: `l3_stream`, `l3_side`, `l3_frames` and `l3_reader`, which are tested here.
+#![tactic(auto)]
+
+#[cfg(test)]
+mod frames;
+#[cfg(test)]
+mod reader;
+#[cfg(test)]
+mod rows;
+#[cfg(test)]
+mod side;
+#[cfg(test)]
+mod stream;
