@@ -23,8 +23,3 @@ pub use laws::{chosen_frames_are_alone, chosen_frames_fit};
 pub use report::{EncodeFault, Report};
 pub use track::{GranuleDone, Track};
 pub use unit::chosen_units_are_coded;
-
-#[cfg(test)]
-mod board_tests;
-#[cfg(test)]
-mod tests;

@@ -9,6 +9,3 @@ mod source;
 
 pub use laws::demo_files_are_wav;
 pub use source::{DemoSource, demo_source};
-
-#[cfg(test)]
-mod tests;

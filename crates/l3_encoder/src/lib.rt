@@ -19,8 +19,3 @@ pub use l3_turns::TurnFault;
 pub use l3_workers::{Gate, Lanes, OpenGate};
 pub use over::encode_over;
 pub use with::encode_with;
-
-#[cfg(test)]
-mod tests;
-#[cfg(test)]
-mod thread_tests;

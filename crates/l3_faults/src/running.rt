@@ -7,7 +7,7 @@ use l3_demo::{DemoSource, demo_source};
 use l3_encoder::{EncodeFault, Gate, Lanes, OpenGate, Report, encode_alone, encode_with};
 use l3_guess::{Guesser, Last};
 use l3_io::{MemSink, Source};
-use std::alloc::{AllocError, Global};
+use std::alloc::Global;
 use std::marker::Brand;
 use std::sync::Wait;
 use std::sync::ledger::{Blank, Ledger};
@@ -93,14 +93,24 @@ pub fn encoded_freely<S: Source, R: Threads + Wait + Sync>(
     encoded(rt, alloc, ahead, &mut Last::new(), &OpenGate, source, sink)
 }
 
+/// How many frames an encoding gave.
+pub fn frames_of(answer: Result<Report, EncodeFault>) -> Result<u32, EncodeFault> {
+    match answer {
+        Ok(report) => Ok(report.frames),
+        Err(fault) => Err(fault),
+    }
+}
+
 /// A sink with room for each stream here.
-pub fn wide_sink(alloc: Global) -> Result<MemSink, AllocError> {
-    MemSink::new(alloc, 10000, 300, &[])
+pub fn wide_sink(alloc: Global) -> Option<MemSink> {
+    MemSink::new(alloc, 10000, 300, &[]).ok()
 }
 
 /// A sink with the stream of the demo's file, as one thread gives it.
-pub fn demo_stream<R: Threads + Wait + Sync>(rt: &R, alloc: Global) -> Result<MemSink, AllocError> {
-    let mut sink = wide_sink(alloc)?;
+pub fn demo_stream<R: Threads + Wait + Sync>(rt: &R, alloc: Global) -> Option<MemSink> {
+    let Some(mut sink) = wide_sink(alloc) else {
+        return None;
+    };
     let _ = encoded_freely(rt, alloc, 0, &mut demo(), &mut sink);
-    Ok(sink)
+    Some(sink)
 }

@@ -12,6 +12,3 @@ mod turning;
 pub use encoding::{TurnFault, encode_turns};
 pub use on_board::encode_on_board;
 pub use turning::turn;
-
-#[cfg(test)]
-mod tests;

@@ -11,6 +11,3 @@ mod reading;
 
 pub use at_hand::Windows;
 pub use laws::windows_of_samples;
-
-#[cfg(test)]
-mod tests;

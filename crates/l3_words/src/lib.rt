@@ -10,6 +10,3 @@ mod values;
 
 pub use command::{Command, DemoWords, EncodeWords, EncoderOptions, NoCommand};
 pub use reading::read_command;
-
-#[cfg(test)]
-mod tests;

@@ -1,4 +1,0 @@
-use Rattle.l3_commit.proofs.board_tests.offered_window_and_guess.Given as goal
-
-abbrev pub ghosts-first_of : goal.ghosts-first_of
-ghosts-first_of g a = record { name = a.blank.name; parts = a.blank.parts }

@@ -1,4 +1,0 @@
-use Rattle.l3_commit.proofs.tests.units_of_steps.Given as goal
-
-abbrev pub ghosts-frames : goal.ghosts-frames
-ghosts-frames g a = record { name = a.blank.name; parts = a.blank.parts }

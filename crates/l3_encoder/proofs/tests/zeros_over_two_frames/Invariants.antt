@@ -1,4 +1,0 @@
-use Rattle.l3_encoder.proofs.tests.zeros_over_two_frames.Given as goal
-
-abbrev pub ghosts-encoded : goal.ghosts-encoded
-ghosts-encoded g a = record { name = a.blank.name; parts = a.blank.parts }
