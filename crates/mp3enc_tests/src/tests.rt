@@ -38,6 +38,9 @@ fn head(channels: u8, hertz: [u8; 2], size: u32) -> [u8; 44] {
     head
 }
 
+// The words of an encoding on one thread.
+static ONE_THREAD: [&str; 3] = ["encode", "--workers", "0"];
+
 // A file of so many zeros.
 fn zeros(alloc: Global, channels: u8, hertz: [u8; 2], values: u16) -> Result<Vec<u8>, AllocError> {
     let mut bytes = Vec::new(alloc);
@@ -57,44 +60,71 @@ fn zero_sample() -> [u8; 835] {
     stream
 }
 
-// How a run on one thread ended, what it wrote, what notes were told, and how many bytes of the source
-// were left, if they can be read.
+// The source, the sink and the notes of a run.
+#[derive(Drop)]
+struct Streams {
+    source: MemSource,
+    sink: MemSink,
+    notes: MemSink,
+}
+
+impl Streams {
+    // A source of these bytes that fails at these reads, and a sink of so much room.
+    fn new(alloc: Global, bytes: &[u8], room: usize, fails: &[u64]) -> Result<Streams, AllocError> {
+        let source = MemSource::new(alloc, bytes, 100, fails)?;
+        let sink = MemSink::new(alloc, room, 300, &[])?;
+        let notes = MemSink::new(alloc, 100, 7, &[])?;
+        Ok(Streams {
+            source,
+            sink,
+            notes,
+        })
+    }
+
+    // Whether just these bytes were written, and just these told.
+    fn took(&self, written: &[u8], told: &[u8]) -> bool {
+        self.sink.bytes() == written && self.notes.bytes() == told
+    }
+
+    // How many bytes a source of at most 5000 has left, if they can be read.
+    fn left(&mut self) -> Option<usize> {
+        let mut rest = [0; 5000];
+        read_full(&mut self.source, &mut rest).ok()
+    }
+}
+
+// How a run on one thread ended, what it wrote and told, and how many bytes of the source were left,
+// if they can be read.
 #[derive(Drop)]
 struct Run {
     status: Option<Status>,
-    sink: MemSink,
-    notes: MemSink,
+    streams: Streams,
     left: Option<usize>,
 }
 
 impl Run {
     // Whether it ended so, wrote just these bytes and told notes just these.
     fn ended(&self, status: Status, written: &[u8], told: &[u8]) -> bool {
-        self.status == Some(status) && self.sink.bytes() == written && self.notes.bytes() == told
+        self.status == Some(status) && self.streams.took(written, told)
     }
 
     // Whether it ended well, wrote so many bytes, the first of them these, and told nothing.
     fn began(&self, count: usize, front: &[u8]) -> bool {
         self.status == Some(Status::Ok)
-            && self.sink.bytes().len() == count
-            && self.sink.bytes().starts_with(front)
-            && self.notes.bytes().is_empty()
+            && self.streams.sink.bytes().len() == count
+            && self.streams.sink.bytes().starts_with(front)
+            && self.streams.notes.bytes().is_empty()
     }
 
     // Whether these bytes stand at this place of what it wrote.
     fn has_at(&self, at: usize, bytes: &[u8]) -> bool {
-        self.sink
+        self.streams
+            .sink
             .bytes()
             .get(at..)
             .unwrap_or(&[])
             .starts_with(bytes)
     }
-}
-
-// How many bytes a source of at most 5000 has left.
-fn left(source: &mut MemSource) -> Option<usize> {
-    let mut rest = [0; 5000];
-    read_full(source, &mut rest).ok()
 }
 
 // A run on one thread, of a source that fails at these reads and a sink of so much room.
@@ -106,15 +136,18 @@ fn alone(
     fails: &[u64],
 ) -> Result<Run, AllocError> {
     let alloc = rt.alloc();
-    let mut source = MemSource::new(alloc, bytes, 100, fails)?;
-    let mut sink = MemSink::new(alloc, room, 300, &[])?;
-    let mut notes = MemSink::new(alloc, 100, 7, &[])?;
-    let status = run_alone(alloc, words, &mut source, &mut sink, &mut notes);
-    let left = left(&mut source);
+    let mut streams = Streams::new(alloc, bytes, room, fails)?;
+    let status = run_alone(
+        alloc,
+        words,
+        &mut streams.source,
+        &mut streams.sink,
+        &mut streams.notes,
+    );
+    let left = streams.left();
     Ok(Run {
         status,
-        sink,
-        notes,
+        streams,
         left,
     })
 }
@@ -134,6 +167,12 @@ fn ends(
         Ok(run) => run.ended(status, written, told),
         Err(_) => false,
     }
+}
+
+// Whether an encoding on one thread, of a source that does not fail, ends well, writes just these bytes
+// and tells nothing.
+fn encodes(rt: &HostRuntime, bytes: &[u8], written: &[u8]) -> bool {
+    ends(rt, &ONE_THREAD, bytes, 10000, &[], Status::Ok, written, b"")
 }
 
 // Whether such a run, of a source that does not fail, ends so and leaves so many bytes, with nothing
@@ -189,21 +228,19 @@ fn counted<L: Ledger + Send, R: Threads + Wait + Sync>(
     requires some { 0 < blank.parts }
 {
     let mut steps: Steps<L> = Steps::start(blank);
-    let mut source = MemSource::new(alloc, bytes, 100, &[])?;
-    let mut sink = MemSink::new(alloc, 10000, 300, &[])?;
-    let mut notes = MemSink::new(alloc, 100, 7, &[])?;
+    let mut streams = Streams::new(alloc, bytes, 10000, &[])?;
     let status = run(
         rt,
         alloc,
         words,
-        &mut source,
-        &mut sink,
-        &mut notes,
+        &mut streams.source,
+        &mut streams.sink,
+        &mut streams.notes,
         guessers,
         &OpenGate,
         &mut steps,
     );
-    Ok((status, sink))
+    Ok((status, streams.sink))
 }
 
 // Whether a run with these guessers ends so and writes just these bytes.
@@ -249,19 +286,7 @@ fn gives_by_three<R: Threads + Wait + Sync>(
 #[test]
 fn one_zero_sample(rt: HostRuntime) {
     let (stream, line) = (zero_sample(), b"frames 2 tried 4 made 4 reused 0\n");
-    let words = ["encode", "--workers", "0"];
-    assert!(rt;
-        ends(
-            &rt,
-            &words,
-            &ZERO_SAMPLE,
-            10000,
-            &[],
-            Status::Ok,
-            &stream,
-            b""
-        )
-    );
+    assert!(rt; encodes(&rt, &ZERO_SAMPLE, &stream));
     let words = ["encode", "--workers", "0", "--guess", "4", "--stats"];
     assert!(rt;
         ends(
@@ -287,8 +312,7 @@ fn zeros_over_two_frames(rt: HostRuntime) -> Result<(), Fail> {
 
 #[test]
 fn no_samples(rt: HostRuntime) {
-    let words = ["encode", "--workers", "0"];
-    assert!(rt; ends(&rt, &words, &HEAD, 10000, &[], Status::Ok, b"", b""));
+    assert!(rt; encodes(&rt, &HEAD, b""));
 }
 
 #[test]
@@ -361,19 +385,8 @@ fn impulse_at_128_kbit(rt: HostRuntime) -> Result<(), Fail> {
     if let Some(sample) = bytes.as_mut_slice().get_mut(1444..1446) {
         sample.copy_from_slice(&[0xFF, 0x7F]);
     }
-    let (words, stream) = (["encode", "--workers", "0"], impulse_stream());
-    assert!(rt;
-        ends(
-            &rt,
-            &words,
-            bytes.as_slice(),
-            10000,
-            &[],
-            Status::Ok,
-            &stream,
-            b""
-        )
-    );
+    let stream = impulse_stream();
+    assert!(rt; encodes(&rt, bytes.as_slice(), &stream));
     assert!(rt; checks(&rt, &stream, Status::Ok, b"frames 3 bits 4539\n", b""));
     Ok(())
 }
@@ -391,7 +404,7 @@ fn ten_seconds_from_a_pipe(rt: HostRuntime) -> Result<(), Fail> {
     assert!(rt;
         checks(
             &rt,
-            run.sink.bytes(),
+            run.streams.sink.bytes(),
             Status::Ok,
             b"frames 384 bits 0\n",
             b""
@@ -417,21 +430,14 @@ fn refused_heads(rt: HostRuntime) {
     ] {
         let mut head = HEAD;
         head[at] = byte;
-        let words = ["encode", "--workers", "0"];
-        assert!(rt; refuses(&rt, &words, &head, status, told, left));
+        assert!(rt; refuses(&rt, &ONE_THREAD, &head, status, told, left));
     }
 }
 
 #[test]
 fn read_fails_in_the_data(rt: HostRuntime) -> Result<(), Fail> {
     let bytes = zeros(rt.alloc(), 2, [0x44, 0xAC], 2304)?;
-    let run = alone(
-        &rt,
-        &["encode", "--workers", "0"],
-        bytes.as_slice(),
-        10000,
-        &[2],
-    )?;
+    let run = alone(&rt, &ONE_THREAD, bytes.as_slice(), 10000, &[2])?;
     assert!(rt; run.ended(Status::ReadFault, b"", b"mp3enc: read fault\n"));
     // The third read is that of the 16 bytes of the format.
     assert!(rt; run.left == Some(4652 - 20));
@@ -442,11 +448,10 @@ fn read_fails_in_the_data(rt: HostRuntime) -> Result<(), Fail> {
 fn sink_fills_up(rt: HostRuntime) {
     let stream = zero_sample();
     let (front, told) = (stream.get(..100).unwrap_or(&[]), b"mp3enc: write fault\n");
-    let words = ["encode", "--workers", "0"];
     assert!(rt;
         ends(
             &rt,
-            &words,
+            &ONE_THREAD,
             &ZERO_SAMPLE,
             100,
             &[],
@@ -599,24 +604,21 @@ fn starts<R: Threads + Wait + Sync>(
     told: &[u8],
     rest: usize,
 ) -> Result<bool, AllocError> {
-    let mut source = MemSource::new(alloc, bytes, 100, &[])?;
-    let mut sink = MemSink::new(alloc, 100, 300, &[])?;
-    let mut notes = MemSink::new(alloc, 100, 7, &[])?;
+    let mut streams = Streams::new(alloc, bytes, 100, &[])?;
     let answer = start(
         rt,
         alloc,
         arguments,
-        &mut source,
-        &mut sink,
-        &mut notes,
+        &mut streams.source,
+        &mut streams.sink,
+        &mut streams.notes,
         Vec::new(alloc),
         &OpenGate,
     );
     Ok(
         answer == ExitCode::from(status)
-            && sink.bytes() == written
-            && notes.bytes() == told
-            && left(&mut source) == Some(rest),
+            && streams.took(written, told)
+            && streams.left() == Some(rest),
     )
 }
 
@@ -722,7 +724,9 @@ fn guesses_of_no_guesser(rt: HostRuntime) {
 fn words_for_workers_are_left_by_one_thread(rt: HostRuntime) -> Result<(), Fail> {
     let run = alone(&rt, &["encode", "--guess", "4"], &HEAD, 100, &[])?;
     assert!(rt;
-        run.status.is_none() && run.sink.bytes().is_empty() && run.notes.bytes().is_empty()
+        run.status.is_none()
+            && run.streams.sink.bytes().is_empty()
+            && run.streams.notes.bytes().is_empty()
     );
     assert!(rt; run.left == Some(44));
     Ok(())
