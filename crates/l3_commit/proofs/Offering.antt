@@ -6,8 +6,8 @@ use Rattle.std.specs.Prelude.{Option, Some, None}
 use Rattle.l3_board.specs.declared.entry.Entry.{Entry}
 use Rattle.l3_board.specs.declared.entry.Entry.TheVariants.{Free, Told, Busied, Left, Gone}
 use Rattle.l3_board.specs.Desk.{DeskState, fresh_desk, entry_of, is_offered}
-use Rattle.l3_offers.specs.Offers.{OffersView, no_offers, told_of, placed_at, GoesWith, IsOfferedAnew, OthersStay}
-use Rattle.l3_offers.proofs.OfferLemmas.{same-cell}
+use Rattle.l3_board.specs.Offers.{OffersView, no_offers, told_of, placed_at, GoesWith, IsOfferedAnew, OthersStay}
+use Rattle.l3_board.proofs.OfferLemmas.{same-cell}
 use Rattle.l3_commit.specs.Ahead.{AreOffered, RestStays}
 
 -- the granules below `at` were offered, and the entries of the others are as they were

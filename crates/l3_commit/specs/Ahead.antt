@@ -5,7 +5,7 @@ use Rattle.l3_base.specs.declared.slots.Window.{Window}
 use Rattle.l3_board.specs.declared.entry.Entry.{Entry}
 use Rattle.l3_board.specs.Desk.{entry_of}
 use Rattle.l3_analysis.specs.Piece.{PieceView, HasSpectra}
-use Rattle.l3_offers.specs.Offers.{IsOfferedAnew}
+use Rattle.l3_board.specs.Offers.{IsOfferedAnew}
 use Rattle.l3_windows.specs.Holding.{WindowsView}
 use Rattle.l3_windows.specs.Windows.{window_in}
 

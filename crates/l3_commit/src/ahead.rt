@@ -3,14 +3,13 @@
 ghost use Rattle.std.specs.Prelude.{◌≡◌, ◌≢◌, ◌+◌, ◌*◌, ◌<◌, ◌≤◌, ◌⊎◌, None, length, true};
 ghost use Rattle.l3_board.specs.declared.entry.Entry.TheVariants.{Told};
 ghost use Rattle.l3_board.specs.Desk.{entry_of, is_offered};
-ghost use Rattle.l3_offers.specs.Offers.{placed_at, GoesWith, HasEnded, IsNear, IsOfferedAnew, OthersStay};
+ghost use Rattle.l3_board.specs.Offers.{placed_at, GoesWith, HasEnded, IsNear, IsOfferedAnew, OthersStay};
 ghost use Rattle.l3_commit.specs.Ahead.{AreOffered, RestStays};
 
 use l3_analysis::PieceBox;
 use l3_base::{GranuleNo, Window};
-use l3_board::Board;
+use l3_board::{Board, Offers};
 use l3_guess::Guesser;
-use l3_offers::Offers;
 use l3_windows::Windows;
 
 // Loads a piece for a granule that is not on offer, with a guess of its reserve, and offers it. The

@@ -1,13 +1,12 @@
 //! Granules that a desk has on its board.
 
 ghost use Rattle.std.specs.Prelude.{◌≡◌, ◌+◌, ◌<◌, ◌≤◌, All, None, length};
-ghost use Rattle.l3_offers.specs.Offers.{GoesWith};
+ghost use Rattle.l3_board.specs.Offers.{GoesWith};
 
 use crate::board::board;
 use crate::item::{Item, marked};
-use l3_board::Board;
+use l3_board::{Board, Offers, fresh_desks};
 use l3_core::{Claim, Deposit};
-use l3_offers::{Offers, fresh_desks};
 use std::alloc::AllocError;
 use std::process::Abort;
 

@@ -2,7 +2,7 @@
 use Rattle.std.specs.Prelude.{◌≡◌, ℕ, ◌+◌, ◌*◌, ◌<◌, ◌≤◌, List, ℤ, false, length, drop, Result, Ok, Err, Some, IfOk, IfSome, OnOk}
 use Rattle.l3_base.specs.declared.settings.Settings.{Settings}
 use Rattle.l3_board.specs.declared.entry.Entry.{Entry}
-use Rattle.l3_offers.specs.Offers.{GoesWith}
+use Rattle.l3_board.specs.Offers.{GoesWith}
 use Rattle.l3_windows.specs.Reading.{AreGone}
 use Rattle.l3_commit.specs.declared.report.Report.{Report}
 use Rattle.l3_commit.specs.declared.report.EncodeFault.{EncodeFault}

@@ -2,17 +2,16 @@ ghost use Rattle.std.specs.Prelude.{◌≡◌, ◌+◌, ◌*◌, ◌<◌, ◌≤
 ghost use Rattle.l3_base.specs.declared.rate.Channels.TheVariants.{Mono};
 ghost use Rattle.l3_board.specs.Desk.{fresh_desk};
 ghost use Rattle.l3_commit.specs.Tracks.{next_of};
-ghost use Rattle.l3_offers.specs.Offers.{GoesWith, no_offers};
+ghost use Rattle.l3_board.specs.Offers.{GoesWith, no_offers};
 
 use crate::boards::lock_board;
 use l3_analysis::{Piece, PieceBox, Stage};
 use l3_base::{Channels, Rate, SampleRate, Settings, Steps};
-use l3_board::{Board, LockBoard, LockDesk, LockSeat};
+use l3_board::{Board, LockBoard, LockDesk, LockSeat, fresh_desks};
 use l3_commit::{Committer, GranuleDone};
 use l3_core::{Claim, Deposit};
 use l3_guess::Flat;
 use l3_io::MemSource;
-use l3_offers::fresh_desks;
 use l3_wav::{Samples, WavHead};
 use std::alloc::Global;
 use std::marker::Brand;

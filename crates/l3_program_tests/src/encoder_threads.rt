@@ -1,6 +1,6 @@
 ghost use Rattle.std.specs.Prelude.{◌≡◌, ◌<◌, ◌≤◌, false};
 ghost use Rattle.l3_commit.specs.Tracks.{first_track};
-ghost use Rattle.l3_offers.specs.Offers.{no_offers};
+ghost use Rattle.l3_board.specs.Offers.{no_offers};
 
 use crate::boards::lock_board;
 use crate::encoder::{MONO, whole};

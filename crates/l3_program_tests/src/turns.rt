@@ -2,16 +2,15 @@ ghost use Rattle.std.specs.Prelude.{◌≡◌, ◌+◌, ◌^◌, ◌<◌, false}
 ghost use Rattle.l3_base.specs.declared.rate.Channels.TheVariants.{Mono};
 ghost use Rattle.l3_board.specs.Desk.{fresh_desk};
 ghost use Rattle.l3_commit.specs.Tracks.{first_track};
-ghost use Rattle.l3_offers.specs.Offers.{no_offers};
+ghost use Rattle.l3_board.specs.Offers.{no_offers};
 
 use crate::boards::lock_board;
 use l3_analysis::PieceBox;
 use l3_base::{Channels, Rate, SampleRate, Settings, Steps};
-use l3_board::{LockBoard, LockDesk, LockSeat};
+use l3_board::{LockBoard, LockDesk, LockSeat, fresh_desks};
 use l3_commit::{Committer, Report};
 use l3_guess::Flat;
 use l3_io::{MemSink, MemSource, read_full};
-use l3_offers::fresh_desks;
 use l3_turns::{TurnFault, encode_on_board, encode_turns};
 use l3_wav::{Samples, WavHead};
 use l3_workers::OpenGate;

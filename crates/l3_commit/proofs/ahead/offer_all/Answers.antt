@@ -1,5 +1,5 @@
 use Rattle.std.proofs.Common.{◌∙◌, subst, arith}
-use Rattle.l3_offers.specs.Offers.{IsOfferedAnew, OthersStay}
+use Rattle.l3_board.specs.Offers.{IsOfferedAnew, OthersStay}
 use Rattle.l3_commit.proofs.Offering.{offering-more}
 use Rattle.l3_commit.proofs.ahead.offer_all.Goals as goal
 

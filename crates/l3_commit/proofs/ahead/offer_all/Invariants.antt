@@ -1,5 +1,5 @@
 use Rattle.std.proofs.Common.{◌≡◌, length}
-use Rattle.l3_offers.specs.Offers.{GoesWith}
+use Rattle.l3_board.specs.Offers.{GoesWith}
 use Rattle.l3_commit.proofs.Offering.{Offering}
 use Rattle.l3_commit.proofs.ahead.offer_all.Given as goal
 

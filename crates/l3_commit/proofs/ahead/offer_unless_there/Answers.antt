@@ -1,6 +1,6 @@
 use Rattle.std.proofs.Common.{◌≡◌, subst}
 use Rattle.std.specs.Prelude.{Some}
-use Rattle.l3_offers.specs.Offers.{placed_at}
+use Rattle.l3_board.specs.Offers.{placed_at}
 use Rattle.l3_commit.proofs.Offering.{offered-there}
 use Rattle.l3_commit.proofs.ahead.offer_unless_there.Goals as goal
 

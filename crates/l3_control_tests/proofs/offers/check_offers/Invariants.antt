@@ -1,5 +1,5 @@
 use Rattle.std.proofs.Common.{◌≡◌, ◌<◌, length}
-use Rattle.l3_offers.specs.Offers.{GoesWith}
+use Rattle.l3_board.specs.Offers.{GoesWith}
 use Rattle.l3_control_tests.proofs.offers.check_offers.Given as goal
 
 abbrev pub invariant-loop-row : goal.invariant-loop-row

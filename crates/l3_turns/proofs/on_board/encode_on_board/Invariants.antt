@@ -1,6 +1,6 @@
 use Rattle.std.proofs.Common.{◌≡◌, ◌+◌, ◌-◌, ◌*◌, ◌<◌, ◌≤◌, ◌⊎◌, false, length}
 use Rattle.l3_base.specs.Lengths.{granules_for}
-use Rattle.l3_offers.specs.Offers.{GoesWith}
+use Rattle.l3_board.specs.Offers.{GoesWith}
 use Rattle.l3_commit.specs.Tracks.{next_of}
 use Rattle.l3_turns.proofs.SoFar.{SoFar}
 use Rattle.l3_turns.proofs.on_board.encode_on_board.Given as goal

@@ -2,7 +2,7 @@
 use Rattle.std.proofs.Common.{◌≡◌, ◌≢◌, ◌∙◌, sym, ap, subst, refl, ℕ, zero, suc, ◌+◌, ◌*◌, ◌%◌, ◌/◌, ◌<◌, ◌≤◌, ◌⊎◌, inl, inr, List, length, set, get_or, arith, length-set, get_or-set_same, get_or-set_other}
 use Rattle.std.proofs.Math.Nat.{mod-add-div, mul-le-mul_left, mul-suc}
 use Rattle.std.specs.Prelude.{true, false, Option, Some, None, is_some}
-use Rattle.l3_offers.specs.Offers.{OffersView, placed_at, AreAhead, IsNear}
+use Rattle.l3_board.specs.Offers.{OffersView, placed_at, AreAhead, IsNear}
 
 -- one of two quotients is greater: then the numbers are a whole divisor apart
 apart : (m a b r next : ℕ) → next ≤ r + m * a → r + m * b < next + m → suc a ≤ b → ⊥

@@ -1,10 +1,10 @@
 ghost use Rattle.std.specs.Prelude.{◌≡◌, ◌≢◌, ◌+◌, ◌%◌, ◌<◌, ◌≤◌, ℕ, true, false, Some, None, IfOk, is_some, length, slice_set};
 ghost use Rattle.l3_board.specs.declared.entry.Entry.TheVariants.{Told};
 ghost use Rattle.l3_board.specs.Desk.{entry_of, is_offered};
-ghost use Rattle.l3_offers.specs.Offers.{told_of, no_offers, placed_at, AreAhead, IsNear, GoesWith, IsOfferedAnew, OthersStay, HasEnded};
+ghost use Rattle.l3_board.specs.Offers.{told_of, no_offers, placed_at, AreAhead, IsNear, GoesWith, IsOfferedAnew, OthersStay, HasEnded};
 
+use crate::board::Board;
 use l3_base::GranuleNo;
-use l3_board::Board;
 use l3_core::{Numbered, Offer, Take};
 use std::alloc::{AllocError, Global};
 use std::marker::Model;
@@ -18,7 +18,7 @@ pub struct Offers {
 }
 
 impl Model for Offers {
-    ghost use Rattle.l3_offers.specs.Offers.{OffersView, AreAhead};
+    ghost use Rattle.l3_board.specs.Offers.{OffersView, AreAhead};
 
     ghost Value = { OffersView };
 

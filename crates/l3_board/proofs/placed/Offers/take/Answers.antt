@@ -1,9 +1,9 @@
 use Rattle.std.proofs.Common.{◌≡◌, ◌<◌, ◌%◌, ap, sym, subst, ◌∙◌, length, arith}
 use Rattle.std.proofs.Math.Nat.{mod-lt}
-use Rattle.l3_offers.specs.Offers.{OffersView, AreAhead, IsNear}
-use Rattle.l3_offers.proofs.OfferLemmas.{ahead-taken}
-use Rattle.l3_offers.proofs.RecordLemmas.{goes-set, told-after, told-next}
-use Rattle.l3_offers.proofs.placed.Offers.take.Goals as goal
+use Rattle.l3_board.specs.Offers.{OffersView, AreAhead, IsNear}
+use Rattle.l3_board.proofs.OfferLemmas.{ahead-taken}
+use Rattle.l3_board.proofs.RecordLemmas.{goes-set, told-after, told-next}
+use Rattle.l3_board.proofs.placed.Offers.take.Goals as goal
 
 pub invariant_of-self : goal.invariant_of-self
 invariant_of-self g c =

@@ -11,8 +11,8 @@ use Rattle.l3_core.specs.declared.event.Take.TheVariants.{Got, Revoked, InWork, 
 use Rattle.l3_board.specs.declared.entry.Entry.{Entry}
 use Rattle.l3_board.specs.declared.entry.Entry.TheVariants.{Free, Told, Busied, Left, Gone}
 use Rattle.l3_board.specs.Desk.{entry_of, offer_entry, take_entry, taken_entry}
-use Rattle.l3_offers.specs.Offers.{OffersView, told_of, placed_at, AreAhead, IsNear}
-use Rattle.l3_offers.proofs.OfferLemmas.{own-or-none}
+use Rattle.l3_board.specs.Offers.{OffersView, told_of, placed_at, AreAhead, IsNear}
+use Rattle.l3_board.proofs.OfferLemmas.{own-or-none}
 
 -- one entry is another now
 pub goes-set : (last after : List Entry) (placed : List (Option ℕ)) (at place : ℕ) (e : Entry) (o : Option ℕ) → after ≡ set last at e → map told_of last ≡ placed → at ≡ place → told_of e ≡ o

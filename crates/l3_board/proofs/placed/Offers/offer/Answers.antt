@@ -1,10 +1,10 @@
 use Rattle.std.proofs.Common.{◌≡◌, ◌<◌, ◌%◌, ap, sym, subst, ◌∙◌, length}
 use Rattle.std.proofs.Math.Nat.{mod-lt}
 use Rattle.std.specs.Prelude.{Some}
-use Rattle.l3_offers.specs.Offers.{OffersView, IsNear}
-use Rattle.l3_offers.proofs.OfferLemmas.{ahead-placed}
-use Rattle.l3_offers.proofs.RecordLemmas.{goes-set, goes-busy}
-use Rattle.l3_offers.proofs.placed.Offers.offer.Goals as goal
+use Rattle.l3_board.specs.Offers.{OffersView, IsNear}
+use Rattle.l3_board.proofs.OfferLemmas.{ahead-placed}
+use Rattle.l3_board.proofs.RecordLemmas.{goes-set, goes-busy}
+use Rattle.l3_board.proofs.placed.Offers.offer.Goals as goal
 
 pub invariant_of-self : goal.invariant_of-self
 invariant_of-self g c =

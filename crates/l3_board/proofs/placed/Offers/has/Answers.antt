@@ -1,7 +1,7 @@
 use Rattle.std.proofs.Common.{refl, sym, ◌∙◌}
-use Rattle.l3_offers.specs.Offers.{placed_at}
-use Rattle.l3_offers.proofs.OfferLemmas.{own-or-none}
-use Rattle.l3_offers.proofs.placed.Offers.has.Goals as goal
+use Rattle.l3_board.specs.Offers.{placed_at}
+use Rattle.l3_board.proofs.OfferLemmas.{own-or-none}
+use Rattle.l3_board.proofs.placed.Offers.has.Goals as goal
 
 pub returns-clause-there : goal.returns-clause-there
 returns-clause-there c some =

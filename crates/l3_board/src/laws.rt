@@ -1,4 +1,4 @@
-ghost use Rattle.l3_offers.specs.Offers.{FreshDesksGo};
+ghost use Rattle.l3_board.specs.Offers.{FreshDesksGo};
 
 /// A desk that begins has nothing on its board: so offers begin beside it.
 pub fn fresh_desks()
