@@ -14,9 +14,9 @@ pub use Rattle.l3_search.specs.Memo
 pub use Rattle.l3_search.specs.CountLaws
 pub use Rattle.l3_search.specs.Gain
 pub use Rattle.l3_search.specs.Laws as SearchLaws
-pub use Rattle.l3_reservoir.specs.Lengths
-pub use Rattle.l3_reservoir.specs.Budget
-pub use Rattle.l3_reservoir.specs.Laws as ReserveLaws
+pub use Rattle.l3_search.specs.Lengths
+pub use Rattle.l3_search.specs.Budget
+pub use Rattle.l3_search.specs.ReserveLaws
 pub use Rattle.l3_energy.specs.Demand
 pub use Rattle.l3_mdct.specs.Lists
 pub use Rattle.l3_mdct.specs.Sums

@@ -1,8 +1,8 @@
 -- What is counted of a piece under the reserve that it supposes.
 use Rattle.std.specs.Prelude.{◌≡◌, ◌≤◌, ℕ, zero, suc, ◌/◌, List, map, Option, Some, None, ℤ}
 use Rattle.std.specs.List.{sum}
-use Rattle.l3_reservoir.specs.Lengths.{mean_bits_of, mmax_of}
-use Rattle.l3_reservoir.specs.Budget.{budget_of, left_by}
+use Rattle.l3_search.specs.Lengths.{mean_bits_of, mmax_of}
+use Rattle.l3_search.specs.Budget.{budget_of, left_by}
 use Rattle.l3_base.specs.declared.settings.Settings.{Settings}
 use Rattle.l3_base.specs.Amp.{no_amp}
 use Rattle.l3_base.specs.Rates.{channels_of}

@@ -15,8 +15,7 @@ use l3_count::Memo;
 use l3_energy::demand;
 use l3_mdct::spectrum;
 use l3_polyphase::{Kept, slots36};
-use l3_reservoir::Reserve;
-use l3_search::{Picked, pick};
+use l3_search::{Picked, Reserve, pick};
 use std::sync::ledger::Ledger;
 
 // What is made of one channel of a granule.

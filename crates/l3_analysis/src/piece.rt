@@ -6,8 +6,7 @@ use crate::stage::Stage;
 use l3_base::{Channels, GranuleNo, Settings, Spectrum, Steps, Window};
 use l3_count::Memo;
 use l3_polyphase::Kept;
-use l3_reservoir::Reserve;
-use l3_search::Picked;
+use l3_search::{Picked, Reserve};
 use std::marker::Model;
 use std::sync::ledger::Ledger;
 

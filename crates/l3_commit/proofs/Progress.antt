@@ -5,7 +5,7 @@ use Rattle.l3_base.specs.declared.settings.Settings.{Settings}
 use Rattle.l3_base.specs.declared.rate.Channels.{Channels}
 use Rattle.l3_base.specs.declared.rate.Channels.TheVariants.{Mono, Stereo}
 use Rattle.l3_base.specs.Lengths.{mmax_of}
-use Rattle.l3_reservoir.specs.Budget.{begin_after}
+use Rattle.l3_search.specs.Budget.{begin_after}
 use Rattle.l3_stream.specs.declared.unit.Unit.{Unit}
 use Rattle.l3_stream.specs.declared.unit.ChosenFrame.{ChosenFrame}
 use Rattle.l3_commit.specs.Choice.{Spectra, granule_by, reserve_by, granule_chosen, after_granule, reserve_between, reserve_at_end, first_granule, second_granule, begin_before, frame_chosen}

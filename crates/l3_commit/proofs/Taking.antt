@@ -6,7 +6,7 @@ use Rattle.l3_base.specs.declared.settings.Settings.{Settings}
 use Rattle.l3_base.specs.declared.rate.Channels.{Channels}
 use Rattle.l3_base.specs.declared.rate.Channels.TheVariants.{Mono, Stereo}
 use Rattle.l3_base.specs.Lengths.{mean_bits_of}
-use Rattle.l3_reservoir.specs.Budget.{left_by}
+use Rattle.l3_search.specs.Budget.{left_by}
 use Rattle.l3_search.specs.Gain.{tried_of}
 use Rattle.l3_stream.specs.declared.unit.Unit.{Unit}
 use Rattle.l3_stream.specs.Frames.{blank}

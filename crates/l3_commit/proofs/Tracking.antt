@@ -12,7 +12,7 @@ use Rattle.l3_base.specs.declared.rate.Channels.{Channels}
 use Rattle.l3_base.specs.declared.rate.Channels.TheVariants.{Mono, Stereo}
 use Rattle.l3_base.specs.Rates.{channels_of, kbits_of, hertz_of}
 use Rattle.l3_base.specs.Lengths.{mean_bits_of, mmax_of, slot_bytes_of, slots_before, is_padded}
-use Rattle.l3_reservoir.specs.Budget.{begin_after, left_by}
+use Rattle.l3_search.specs.Budget.{begin_after, left_by}
 use Rattle.l3_stream.specs.declared.unit.Unit.{Unit}
 use Rattle.l3_stream.specs.declared.unit.ChosenFrame.{ChosenFrame}
 use Rattle.l3_stream.specs.Units.{lengths}

@@ -4,7 +4,7 @@ use Rattle.std.specs.List.{sum_by}
 use Rattle.l3_base.specs.declared.settings.Settings.{Settings}
 use Rattle.l3_base.specs.Lengths.{mean_bits_of, mmax_of, slots_before}
 use Rattle.l3_base.specs.Rates.{channels_of}
-use Rattle.l3_reservoir.specs.Budget.{begin_after}
+use Rattle.l3_search.specs.Budget.{begin_after}
 use Rattle.l3_stream.specs.declared.unit.Unit.{Unit}
 use Rattle.l3_stream.specs.Units.{lengths}
 use Rattle.l3_stream.specs.Coded.{IsCodedGranule}

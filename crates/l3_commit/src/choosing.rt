@@ -11,7 +11,7 @@ use crate::unit::write_unit;
 use l3_analysis::Piece;
 use l3_base::{Channels, Settings, Steps};
 use l3_quant::first_gain;
-use l3_reservoir::Reserve;
+use l3_search::Reserve;
 use l3_stream::Unit;
 use std::sync::ledger::Ledger;
 

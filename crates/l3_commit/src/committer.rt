@@ -11,7 +11,7 @@ ghost use Rattle.l3_board.specs.Offers.{no_offers, GoesWith, HasEnded};
 ghost use Rattle.l3_windows.specs.Holding.{GoesOn, Holds};
 ghost use Rattle.l3_windows.specs.Reading.{AreGone};
 ghost use Rattle.l3_analysis.specs.Piece.{no_memos, spectrum_in, work_at};
-ghost use Rattle.l3_reservoir.specs.Budget.{begin_after};
+ghost use Rattle.l3_search.specs.Budget.{begin_after};
 ghost use Rattle.l3_stream.specs.Tape.{CanFollow};
 ghost use Rattle.l3_stream.specs.declared.unit.ChosenFrame.{ChosenFrame};
 ghost use Rattle.l3_commit.specs.Ahead.{AreOffered, RestStays, IsFit};

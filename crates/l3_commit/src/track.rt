@@ -1,7 +1,7 @@
 ghost use Rattle.std.specs.Prelude.{◌≡◌, ◌+◌, ◌-◌, ◌*◌, ◌≤◌, ◌<◌, ◌^◌, ◌++◌, ◌∷◌, [], ℕ, List, take, length, min};
 ghost use Rattle.std.specs.Borrow.{sem};
 ghost use Rattle.l3_base.specs.Lengths.{mmax_of, slots_before};
-ghost use Rattle.l3_reservoir.specs.Budget.{begin_after};
+ghost use Rattle.l3_search.specs.Budget.{begin_after};
 ghost use Rattle.l3_analysis.specs.Piece.{HasSpectra, spectrum_in};
 ghost use Rattle.l3_stream.specs.Tape.{CanFollow};
 ghost use Rattle.l3_commit.specs.Lacking.{IsCommitted, IsLike, granule_lacking};
@@ -10,7 +10,7 @@ ghost use Rattle.l3_commit.specs.Tried.{granule_tried};
 use crate::choosing::{Place, choose_granule, no_units};
 use l3_analysis::Piece;
 use l3_base::{Settings, Steps};
-use l3_reservoir::Reserve;
+use l3_search::Reserve;
 use l3_stream::ChosenFrame;
 use std::marker::Model;
 use std::sync::ledger::Ledger;

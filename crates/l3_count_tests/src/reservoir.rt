@@ -1,6 +1,6 @@
 use crate::inputs::check_row;
 use l3_base::{Channels, Rate, SampleRate, Settings};
-use l3_reservoir::Reserve;
+use l3_search::Reserve;
 
 // 44100 Hz, stereo, 128 kbit/s: the mean is 762 bits and main_data_begin at most 511.
 fn settings() -> Settings {

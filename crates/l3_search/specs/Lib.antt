@@ -12,5 +12,8 @@ pub use Rattle.l3_count.specs.RegionLaws
 pub use Rattle.l3_count.specs.Count
 pub use Rattle.l3_count.specs.Memo
 pub use Rattle.l3_count.specs.Laws as CountLaws
+pub use Rattle.l3_base.specs.Lengths
+pub mod Budget
 pub mod Gain
 pub mod Laws
+pub mod ReserveLaws

@@ -4,7 +4,7 @@ ghost use Rattle.std.specs.Prelude.{◌^◌, All};
 ghost use Rattle.l3_tables.specs.Sums.{IsWithin};
 
 use l3_base::Spectrum;
-use l3_ms::{prefer, turn};
+use l3_energy::{prefer, turn};
 
 // A spectrum that is 0 but for line 0.
 fn one_line(x: i32) -> Spectrum

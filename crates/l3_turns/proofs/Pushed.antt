@@ -4,7 +4,7 @@ use Rattle.std.proofs.lemmas.List.{append-nil}
 use Rattle.l3_base.specs.declared.settings.Settings.{Settings}
 use Rattle.l3_base.specs.Lengths.{mmax_of, frames_for}
 use Rattle.l3_io.proofs.TakenLemmas.{Takes-then}
-use Rattle.l3_reservoir.specs.Budget.{begin_after}
+use Rattle.l3_search.specs.Budget.{begin_after}
 use Rattle.l3_stream.specs.declared.unit.ChosenFrame.{ChosenFrame}
 use Rattle.l3_stream.specs.Tape.{FitsAt, FramesFit, CanFollow, end_of, end_after}
 use Rattle.l3_stream.proofs.Following.{end_after-more, FramesFit-back, nothing-follows}

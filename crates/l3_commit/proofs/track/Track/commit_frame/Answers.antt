@@ -1,6 +1,6 @@
 use Rattle.std.proofs.Common.{◌≡◌, ◌+◌, ◌++◌, ◌∷◌, [], arith, ap, ◌∙◌, sym, subst, length, take, refl}
 use Rattle.l3_base.specs.Lengths.{mmax_of}
-use Rattle.l3_reservoir.specs.Budget.{begin_after}
+use Rattle.l3_search.specs.Budget.{begin_after}
 use Rattle.l3_stream.specs.declared.unit.ChosenFrame.{ChosenFrame}
 use Rattle.l3_stream.specs.Tape.{CanFollow}
 use Rattle.l3_commit.specs.Tracks.{TrackView, IsTrack}

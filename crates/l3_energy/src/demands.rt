@@ -1,5 +1,5 @@
 ghost use Rattle.std.specs.Prelude.{◌≡◌, ◌<◌, ◌^◌};
-ghost use Rattle.l3_ms.specs.Joint.{prefers};
+ghost use Rattle.l3_energy.specs.Joint.{prefers};
 
 /// Whether middle and side together demand fewer bits than left and right. At a tie they do not.
 pub fn prefer(left: u32, right: u32, middle: u32, side: u32) -> bool

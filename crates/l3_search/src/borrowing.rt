@@ -1,5 +1,5 @@
 ghost use Rattle.std.specs.Prelude.{◌≡◌, ◌*◌, ◌/◌, ◌≤◌};
-ghost use Rattle.l3_reservoir.specs.Budget.{excess_of, borrowed};
+ghost use Rattle.l3_search.specs.Budget.{excess_of, borrowed};
 
 // A demand that is above the mean by so many bits or fewer borrows nothing (this project's own).
 const EXCESS_LIMIT: u32 = 100;

@@ -1,8 +1,8 @@
 use Rattle.std.proofs.Common.{◌≡◌, ℕ, ◌<◌, length}
 use Rattle.l3_tables.specs.Lists.{entry}
 use Rattle.l3_tables.specs.Sums.{IsWithin}
-use Rattle.l3_ms.specs.Joint.{middle_line, side_line}
-use Rattle.l3_ms.proofs.turning.turn.Given as goal
+use Rattle.l3_energy.specs.Joint.{middle_line, side_line}
+use Rattle.l3_energy.proofs.turning.turn.Given as goal
 
 abbrev pub invariant-loop-k : goal.invariant-loop-k
 invariant-loop-k l = record {

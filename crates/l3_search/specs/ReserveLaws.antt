@@ -1,6 +1,6 @@
 -- Laws of the bit reservoir, each carried by a function of src/laws.rt.
 use Rattle.std.specs.Prelude.{◌≡◌, ℕ, ◌+◌, ◌*◌, ◌≤◌}
-use Rattle.l3_reservoir.specs.Budget.{borrowed, begin_after, stuffing_after}
+use Rattle.l3_search.specs.Budget.{borrowed, begin_after, stuffing_after}
 
 -- no unit borrows more than the reserve
 abbrev pub BorrowsWithinReserve : Type 0

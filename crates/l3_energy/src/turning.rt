@@ -1,7 +1,7 @@
 ghost use Rattle.std.specs.Prelude.{◌≡◌, ◌^◌, All};
 ghost use Rattle.l3_base.specs.Spectrum.{IsSpectrum};
 ghost use Rattle.l3_tables.specs.Sums.{IsWithin};
-ghost use Rattle.l3_ms.specs.Joint.{over_root_two, middle_line, side_line, middle_of, side_of};
+ghost use Rattle.l3_energy.specs.Joint.{over_root_two, middle_line, side_line, middle_of, side_of};
 
 use l3_base::Spectrum;
 

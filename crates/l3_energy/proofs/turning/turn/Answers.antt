@@ -4,9 +4,9 @@ use Rattle.std.proofs.lemmas.Int.{to_z-of_z}
 use Rattle.l3_tables.specs.Lists.{entry}
 use Rattle.l3_tables.specs.Sums.{IsWithin}
 use Rattle.l3_tables.proofs.ListLemmas.{tabulate-entries}
-use Rattle.l3_ms.specs.Joint.{middle_line, side_line, middle_of, side_of}
-use Rattle.l3_ms.proofs.LineLemmas.{entry-set}
-use Rattle.l3_ms.proofs.turning.turn.Goals as goal
+use Rattle.l3_energy.specs.Joint.{middle_line, side_line, middle_of, side_of}
+use Rattle.l3_energy.proofs.LineLemmas.{entry-set}
+use Rattle.l3_energy.proofs.turning.turn.Goals as goal
 
 pub loop-k-preserved : goal.loop-k-preserved
 loop-k-preserved c =

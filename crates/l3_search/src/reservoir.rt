@@ -1,6 +1,6 @@
 ghost use Rattle.std.specs.Prelude.{◌≡◌, ◌+◌, ◌*◌, ◌≤◌, ◌<◌, ◌^◌, ℕ, min};
 ghost use Rattle.l3_base.specs.Lengths.{mean_bits_of, mmax_of};
-ghost use Rattle.l3_reservoir.specs.Budget.{budget_of, left_by, begin_after, stuffing_after};
+ghost use Rattle.l3_search.specs.Budget.{budget_of, left_by, begin_after, stuffing_after};
 
 use crate::borrowing::borrow;
 use l3_base::Settings;

@@ -1,3 +1,0 @@
-pub use Rattle.l3_base.specs.Lengths
-pub mod Budget
-pub mod Laws
