@@ -6,8 +6,7 @@ ghost use Rattle.l3_stream.specs.Frames.{IsCoded};
 ghost use Rattle.l3_stream.specs.Tape.{head_of};
 
 use l3_base::Settings;
-use l3_side::{write_header, write_side};
-use l3_stream::ChosenFrame;
+use l3_stream::{ChosenFrame, write_header, write_side};
 use std::marker::Model;
 
 // Bytes of header and side information in stereo; mono has fewer.

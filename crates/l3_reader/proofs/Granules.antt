@@ -12,7 +12,7 @@ use Rattle.l3_stream.specs.declared.unit.Unit.{Unit}
 use Rattle.l3_stream.specs.Units.{HasFields, lengths}
 use Rattle.l3_stream.specs.Frames.{blank, placed, units_of}
 use Rattle.l3_stream.specs.UnitReading.{unit_at, main_units_at}
-use Rattle.l3_side.specs.Reading.{IsBare}
+use Rattle.l3_stream.specs.FieldReading.{IsBare}
 use Rattle.l3_reader.proofs.UnitSteps.{first_bad, two_read, second_bad, both_read, later_bad, earlier_bad}
 
 module _ (st : Settings) (first : ℕ) (bytes : List ℕ) where

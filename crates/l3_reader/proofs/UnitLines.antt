@@ -7,7 +7,7 @@ use Rattle.l3_stream.specs.declared.unit.Unit.{Unit}
 use Rattle.l3_stream.specs.Units.{zero_lines}
 use Rattle.l3_stream.specs.SideReading.{stripped}
 use Rattle.l3_stream.specs.UnitReading.{with_lines}
-use Rattle.l3_side.specs.Reading.{IsBare}
+use Rattle.l3_stream.specs.FieldReading.{IsBare}
 
 pub zeros-length : (n : ℕ) → length (zero_lines n) ≡ n
 unfolding zero_lines

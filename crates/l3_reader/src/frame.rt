@@ -15,8 +15,7 @@ use crate::main_data::read_main;
 use crate::tape::Tape;
 use l3_base::Settings;
 use l3_bits::take_bits;
-use l3_side::{read_header, read_side, write_header};
-use l3_stream::ChosenFrame;
+use l3_stream::{ChosenFrame, read_header, read_side, write_header};
 
 // The settings under which this is the header of the first frame, which is not padded.
 pub(crate) fn first_settings(header: &[u8; 4]) -> Option<Settings>

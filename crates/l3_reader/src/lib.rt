@@ -3,7 +3,7 @@
 //!
 //! Frames are read one after the other, each against the remainder rule and the main data that the
 //! frames before it left (ISO/IEC 11172-3, clause 2.4, as far as the profile has it). Before:
-//! `l3_io` (a source of bytes), `l3_side` (headers and side information), `l3_huff` (codes). After:
+//! `l3_io` (a source of bytes), `l3_stream` (headers and side information), `l3_huff` (codes). After:
 //! the command that checks a stream.
 #![tactic(auto)]
 

@@ -9,7 +9,7 @@ ghost use Rattle.l3_stream.specs.Units.{HasFields, lengths};
 ghost use Rattle.l3_stream.specs.Frames.{placed, units_number, units_of};
 ghost use Rattle.l3_stream.specs.Faults.{clear};
 ghost use Rattle.l3_stream.specs.Deviation.{main_at};
-ghost use Rattle.l3_side.specs.Reading.{IsBare, side_in};
+ghost use Rattle.l3_stream.specs.FieldReading.{IsBare, side_in};
 ghost use Rattle.l3_reader.specs.Steps.{GoesTo, KeepsTape, gives, tape_place, slot_behind};
 
 use crate::StreamFault;

@@ -8,7 +8,7 @@ ghost use Rattle.l3_base.specs.declared.rate.Channels.{Channels};
 ghost use Rattle.l3_stream.specs.Units.{HasFields, lengths};
 ghost use Rattle.l3_stream.specs.Frames.{placed, units_number, units_of};
 ghost use Rattle.l3_stream.specs.UnitReading.{unit_at, main_units_at};
-ghost use Rattle.l3_side.specs.Reading.{IsBare};
+ghost use Rattle.l3_stream.specs.FieldReading.{IsBare};
 ghost use Rattle.l3_reader.specs.Steps.{gives};
 
 use crate::StreamFault;

@@ -16,3 +16,8 @@ pub mod FramesReading
 pub mod StreamReading
 pub mod Readings
 pub mod Locality
+pub mod NumberLemmas
+pub mod HeaderLemmas
+pub mod SideLemmas
+pub mod UnitFieldLemmas
+pub mod GranuleLemmas

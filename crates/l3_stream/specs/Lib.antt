@@ -4,6 +4,8 @@ pub mod Fields
 pub mod Header
 pub mod Side
 pub mod SideReading
+pub mod FieldReading
+pub mod Numbers
 pub mod Tape
 pub mod Laws
 pub mod Coded

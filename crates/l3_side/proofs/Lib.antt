@@ -1,5 +1,0 @@
-pub mod Numbers
-pub mod Headers
-pub mod Sides
-pub mod Fields
-pub mod Granules
