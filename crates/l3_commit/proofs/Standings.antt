@@ -8,7 +8,7 @@ use Rattle.l3_base.specs.Lengths.{granules_for}
 use Rattle.l3_tables.specs.Filterbank.{window_of}
 use Rattle.l3_mdct.specs.Spectrum.{spectrum_of}
 use Rattle.l3_analysis.specs.Piece.{PieceView, spectrum_in}
-use Rattle.l3_windows.specs.Holding.{WindowsView, Holds, GoesOn}
+use Rattle.l3_wav.specs.Holding.{WindowsView, Holds, GoesOn}
 use Rattle.l3_stream.specs.declared.unit.ChosenFrame.{ChosenFrame}
 use Rattle.l3_commit.specs.Choice.{frame_chosen, granule_chosen}
 use Rattle.l3_commit.specs.Encoding.{spectra_of}

@@ -6,8 +6,8 @@ use Rattle.l3_board.specs.declared.entry.Entry.{Entry}
 use Rattle.l3_board.specs.Desk.{entry_of}
 use Rattle.l3_analysis.specs.Piece.{PieceView, HasSpectra}
 use Rattle.l3_board.specs.Offers.{IsOfferedAnew}
-use Rattle.l3_windows.specs.Holding.{WindowsView}
-use Rattle.l3_windows.specs.Windows.{window_in}
+use Rattle.l3_wav.specs.Holding.{WindowsView}
+use Rattle.l3_wav.specs.Windows.{window_in}
 
 -- each granule from one to below another is on offer, or its cell was busy when it was offered now
 abbrev pub AreOffered : (cells : ℕ) → (old new : List Entry) → (from to : ℕ) → Type 0

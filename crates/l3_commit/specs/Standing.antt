@@ -6,7 +6,7 @@ use Rattle.l3_base.specs.declared.rate.Channels.TheVariants.{Mono, Stereo}
 use Rattle.l3_base.specs.Lengths.{granules_for}
 use Rattle.l3_analysis.specs.Piece.{PieceView, HasSpectra, blank_of, spectrum_in}
 use Rattle.l3_board.specs.Offers.{OffersView}
-use Rattle.l3_windows.specs.Holding.{WindowsView, Holds}
+use Rattle.l3_wav.specs.Holding.{WindowsView, Holds}
 use Rattle.l3_stream.specs.declared.unit.Unit.{Unit}
 use Rattle.l3_commit.specs.Choice.{Spectra, reserve_at_start, reserve_between, reserve_at_end, first_granule, second_granule, begin_before}
 use Rattle.l3_commit.specs.Encoding.{spectra_of}

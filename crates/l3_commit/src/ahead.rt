@@ -10,7 +10,7 @@ use l3_analysis::PieceBox;
 use l3_base::{GranuleNo, Window};
 use l3_board::{Board, Offers};
 use l3_guess::Guesser;
-use l3_windows::Windows;
+use l3_wav::Windows;
 
 // Loads a piece for a granule that is not on offer, with a guess of its reserve, and offers it. The
 // answer is the piece that comes back.

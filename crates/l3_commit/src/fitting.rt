@@ -2,7 +2,7 @@
 
 ghost use Rattle.std.specs.Prelude.{◌≡◌, ◌+◌, ◌*◌, ◌<◌, ◌≤◌, ◌⊎◌, ◌↔◌, true, false, ℕ, ℤ, List};
 ghost use Rattle.l3_tables.specs.Filterbank.{window_of};
-ghost use Rattle.l3_windows.specs.Holding.{Holds};
+ghost use Rattle.l3_wav.specs.Holding.{Holds};
 ghost use Rattle.l3_analysis.specs.declared.stage.Stage.TheVariants.{Transformed};
 ghost use Rattle.l3_analysis.specs.Piece.{HasSpectra, no_memos};
 ghost use Rattle.l3_commit.specs.Ahead.{IsFit, IsFitTo};
@@ -10,7 +10,7 @@ ghost use Rattle.l3_commit.specs.Ahead.{IsFit, IsFitTo};
 use l3_analysis::{Piece, PieceBox, Stage};
 use l3_base::{GranuleNo, Settings, Window};
 use l3_polyphase::Kept;
-use l3_windows::Windows;
+use l3_wav::Windows;
 
 // Whether two windows of a channel have the same samples.
 fn are_same(a: &[i16; 1632], b: &[i16; 1632]) -> bool

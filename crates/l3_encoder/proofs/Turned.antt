@@ -14,7 +14,7 @@ use Rattle.l3_wav.specs.Samples.{SamplesState, coming, unread}
 use Rattle.l3_wav.specs.Pcm.{left_of, right_of}
 use Rattle.l3_wav.proofs.FileLemmas.{file_channels}
 use Rattle.l3_wav.proofs.TailLemmas.{IsTail, file_of-tail}
-use Rattle.l3_windows.specs.Reading.{AreGone}
+use Rattle.l3_wav.specs.ReadingOn.{AreGone}
 use Rattle.l3_commit.specs.declared.report.Report.{Report}
 use Rattle.l3_commit.specs.declared.report.EncodeFault.{EncodeFault}
 use Rattle.l3_commit.specs.Encoding.{encoding_of, gains_tried}

@@ -3,7 +3,7 @@ use Rattle.std.specs.Prelude.{◌≡◌, ℕ, ◌+◌, ◌*◌, ◌<◌, ◌≤�
 use Rattle.l3_base.specs.declared.settings.Settings.{Settings}
 use Rattle.l3_board.specs.declared.entry.Entry.{Entry}
 use Rattle.l3_board.specs.Offers.{GoesWith}
-use Rattle.l3_windows.specs.Reading.{AreGone}
+use Rattle.l3_wav.specs.ReadingOn.{AreGone}
 use Rattle.l3_commit.specs.declared.report.Report.{Report}
 use Rattle.l3_commit.specs.declared.report.EncodeFault.{EncodeFault}
 use Rattle.l3_commit.specs.declared.report.EncodeFault.TheVariants as fault

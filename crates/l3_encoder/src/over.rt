@@ -1,7 +1,7 @@
 ghost use Rattle.std.specs.Prelude.{◌≡◌, ◌+◌, ◌*◌, ◌<◌, ◌≤◌, ℕ, ℤ, List, All, IfOk, IfSome, OnOk, None, Some, drop, false, length};
 ghost use Rattle.std.specs.Thread.{IsSync};
 ghost use Rattle.l3_board.specs.Offers.{GoesWith};
-ghost use Rattle.l3_windows.specs.Reading.{AreGone};
+ghost use Rattle.l3_wav.specs.ReadingOn.{AreGone};
 ghost use Rattle.l3_commit.specs.Encoding.{gains_tried};
 ghost use Rattle.l3_commit.specs.Standing.{StandsFor};
 ghost use Rattle.l3_commit.specs.Tracks.{first_track, next_of};

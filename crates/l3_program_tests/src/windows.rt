@@ -3,8 +3,7 @@ ghost use Rattle.std.proofs.Common.{rules};
 
 use l3_base::{Channels, Failed, GranuleNo, ReadFault, SampleRate, Window};
 use l3_io::{MemSource, Source};
-use l3_wav::{Samples, WavHead};
-use l3_windows::Windows;
+use l3_wav::{Samples, WavHead, Windows};
 use std::alloc::Global;
 
 // Samples of each channel in a ramp: six frames, and so twelve granules, of which the samples of

@@ -8,8 +8,8 @@ use Rattle.l3_base.specs.Lengths.{frames_for, granules_for}
 use Rattle.l3_io.specs.Taken.{TakesPrefix, Writes}
 use Rattle.l3_io.proofs.TakenLemmas.{Writes-then}
 use Rattle.l3_wav.proofs.PcmLemmas.{gone_further}
-use Rattle.l3_windows.specs.Holding.{WindowsView, Holds, GoesOn}
-use Rattle.l3_windows.specs.Reading.{AreGone}
+use Rattle.l3_wav.specs.Holding.{WindowsView, Holds, GoesOn}
+use Rattle.l3_wav.specs.ReadingOn.{AreGone}
 use Rattle.l3_stream.specs.declared.unit.ChosenFrame.{ChosenFrame}
 use Rattle.l3_stream.specs.Tape.{FramesFit, stream_of}
 use Rattle.l3_frames.specs.Writing.{Writing, owed}

@@ -5,8 +5,8 @@ use Rattle.std.proofs.lemmas.Bool.Decides.{nat_tests}
 use Rattle.l3_base.specs.declared.settings.Settings.{Settings}
 use Rattle.l3_base.specs.Lengths.{frames_for, granules_for}
 use Rattle.l3_io.specs.Taken.{Writes}
-use Rattle.l3_windows.specs.Holding.{WindowsView, Holds, GoesOn}
-use Rattle.l3_windows.specs.Reading.{AreGone}
+use Rattle.l3_wav.specs.Holding.{WindowsView, Holds, GoesOn}
+use Rattle.l3_wav.specs.ReadingOn.{AreGone}
 use Rattle.l3_stream.specs.declared.unit.ChosenFrame.{ChosenFrame}
 use Rattle.l3_stream.specs.Tape.{FramesFit, stream_of}
 use Rattle.l3_frames.specs.Writing.{Writing, owed}

@@ -1,5 +1,5 @@
 ghost use Rattle.std.specs.Prelude.{◌≡◌, ◌+◌, ◌<◌, ◌≤◌, ℕ, ℤ, List, Some, drop, length, false, IfOk, IfSome, OnOk};
-ghost use Rattle.l3_windows.specs.Reading.{AreGone};
+ghost use Rattle.l3_wav.specs.ReadingOn.{AreGone};
 ghost use Rattle.l3_commit.specs.Encoding.{gains_tried};
 ghost use Rattle.l3_commit.specs.Standing.{StandsFor};
 ghost use Rattle.l3_commit.specs.Tracks.{first_track};

@@ -1,6 +1,6 @@
 ghost use Rattle.std.specs.Prelude.{◌≡◌, ◌+◌, ◌*◌, ◌<◌, ◌≤◌, ◌⊎◌, ℕ, ℤ, List, Some, drop, length, true, false, IfOk, IfSome, OnOk};
 ghost use Rattle.l3_board.specs.Offers.{GoesWith};
-ghost use Rattle.l3_windows.specs.Reading.{AreGone};
+ghost use Rattle.l3_wav.specs.ReadingOn.{AreGone};
 ghost use Rattle.l3_commit.specs.Encoding.{gains_tried};
 ghost use Rattle.l3_commit.specs.Standing.{StandsFor, StillStands, offers_end};
 ghost use Rattle.l3_commit.specs.Tracks.{first_track, next_of};

@@ -2,7 +2,7 @@ ghost use Rattle.std.specs.Prelude.{◌≡◌, ◌+◌, ◌<◌, ◌≤◌, ℕ,
 ghost use Rattle.l3_base.specs.declared.settings.Settings.{Settings};
 ghost use Rattle.l3_base.specs.Lengths.{granules_for};
 ghost use Rattle.l3_io.specs.Causes.{HasCause};
-ghost use Rattle.l3_windows.specs.Holding.{Holds};
+ghost use Rattle.l3_wav.specs.Holding.{Holds};
 ghost use Rattle.l3_analysis.specs.Piece.{no_memos};
 ghost use Rattle.l3_stream.specs.declared.unit.ChosenFrame.{ChosenFrame};
 ghost use Rattle.l3_commit.specs.Encoding.{spectra_of};

@@ -8,3 +8,8 @@ pub mod PcmLemmas
 pub mod RangeLemmas
 pub mod SampleLemmas
 pub mod TailLemmas
+mod GoneLemmas
+mod HoldLemmas
+mod ReadLemmas
+mod WindowLemmas
+mod SoundLemmas

@@ -1,4 +1,5 @@
 ghost use Rattle.l3_wav.specs.Laws.{ChunksNeverRunOut, FilesHaveChannels16};
+ghost use Rattle.l3_wav.specs.Windows.{WindowsOfSamples, WindowsOfFronts};
 
 /// How many chunks a head can have: never more than its definition looks at.
 pub fn chunks_in_a_head()
@@ -8,4 +9,11 @@ pub fn chunks_in_a_head()
 /// What the samples of an accepted file are, by its bytes alone.
 pub fn samples_of_a_file()
     ensures { FilesHaveChannels16 }
+{}
+
+/// The windows of the samples that are kept are those of all samples, and so are those of a front
+/// of the samples, where it reaches.
+pub fn windows_of_samples()
+    ensures kept { WindowsOfSamples }
+    ensures front { WindowsOfFronts }
 {}

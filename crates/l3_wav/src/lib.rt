@@ -1,18 +1,24 @@
-//! Bytes of a WAV file -> its head, and its samples in order.
+//! Bytes of a WAV file -> its head, and its samples in order; the samples, as they come -> the
+//! windows of the next granules.
 //!
-//! Before: `l3_io`, sources of bytes. After: `l3_windows`, which keeps the samples that are at hand,
-//! and `l3_encoder`, which reads the file.
+//! Before: `l3_io`, sources of bytes, and `l3_tables`, what a window is. After: `l3_commit`, which
+//! makes spectra of windows, and `l3_encoder`, which reads the file.
 #![tactic(auto)]
 
+mod at_hand;
 mod block;
 mod fault;
 mod fields;
+mod filling;
 mod head;
+mod kept;
 mod laws;
 mod reading;
+mod reading_on;
 mod samples;
 
+pub use at_hand::Windows;
 pub use fault::WavFault;
 pub use head::{WavHead, open};
-pub use laws::{chunks_in_a_head, samples_of_a_file};
+pub use laws::{chunks_in_a_head, samples_of_a_file, windows_of_samples};
 pub use samples::Samples;

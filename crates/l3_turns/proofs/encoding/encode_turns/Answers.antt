@@ -2,7 +2,7 @@ use Rattle.std.proofs.Common.{arith, ◌≡◌, ◌∙◌, ap, sym, subst, inl, 
 use Rattle.std.specs.Prelude.{Result, Ok, Err, ℤ, List}
 use Rattle.l3_base.specs.Lengths.{granules_for}
 use Rattle.l3_io.specs.Causes.{count_after}
-use Rattle.l3_windows.specs.Holding.{WindowsView, Holds}
+use Rattle.l3_wav.specs.Holding.{WindowsView, Holds}
 use Rattle.l3_commit.specs.Tracks.{TrackView, next_of}
 use Rattle.l3_turns.proofs.Counts.{later-same, later-same-then, later-more, later-more-then, read-next}
 use Rattle.l3_turns.proofs.Loop.{AllDone, owes-fresh, IfSome-samples}

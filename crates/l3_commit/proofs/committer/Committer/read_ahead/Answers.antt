@@ -1,6 +1,6 @@
 use Rattle.std.proofs.Common.{ap, subst}
 use Rattle.std.specs.Prelude.{OnOk}
-use Rattle.l3_windows.specs.Holding.{WindowsView, GoesOn}
+use Rattle.l3_wav.specs.Holding.{WindowsView, GoesOn}
 use Rattle.l3_commit.specs.Standing.{CommitterView, StandsOn, own_in}
 use Rattle.l3_commit.proofs.Standings.{OnOk-map, stands-read}
 use Rattle.l3_commit.proofs.committer.Committer.read_ahead.Goals as goal

@@ -1,5 +1,0 @@
-mod GoneLemmas
-mod HoldLemmas
-mod ReadLemmas
-mod WindowLemmas
-mod SoundLemmas
