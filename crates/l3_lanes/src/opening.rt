@@ -1,8 +1,8 @@
 // How a board begins.
-ghost use Rattle.std.specs.Prelude.{◌≡◌, ◌+◌, ◌<◌, ◌≤◌, None, Some, false, length, vec_len, IfOk, All, map, replicate};
+ghost use Rattle.std.specs.Prelude.{◌≡◌, ◌+◌, ◌<◌, ◌≤◌, [], None, Some, false, length, vec_len, IfOk, All, map, replicate};
 ghost use Rattle.l3_board.specs.Desk.{fresh_desk};
 ghost use Rattle.l3_lanes.specs.History.{bare};
-ghost use Rattle.l3_lanes.specs.Moves.{no_past};
+ghost use Rattle.l3_lanes.specs.Moves.{no_past, opening_knowledge};
 ghost use Rattle.l3_lanes.specs.Calls.{IsDeskOf, IsSeat, IsSeatOf, claimed, desk_past, seat_past};
 
 use crate::plays::{Hire, Lanes, Row, Token};
@@ -31,14 +31,8 @@ impl<T: Numbered> LaneBoard<T> {
         ensures made { IfOk result (λ made. All (λ seat. IsSeatOf made.0 seat × (claimed seat ≡ None)) made.2.items) }
     {
         let cells = blanks.len() as u8;
-        let count = usize::from(cells);
-        let kept = DeskRecord::new(alloc, cells)?;
-        let granules = nones(alloc, count)?;
-        let words = zeros(alloc, count + 2)?;
-        let slots = filled(alloc, blanks)?;
-        let Ok((lanes, mut token)) = Lanes::<T>::new(alloc, words.as_slice(), slots, &count) else {
-            return Err(AllocError);
-        };
+        let (kept, granules) = nothing_told(alloc, cells)?;
+        let (lanes, mut token) = empty_lanes(alloc, blanks)?;
         let seats = hired(alloc, &lanes.shared, &mut token, workers)?;
         let desk = LaneDesk {
             token,
@@ -50,16 +44,43 @@ impl<T: Numbered> LaneBoard<T> {
     }
 }
 
-fn zeros(alloc: Global, count: usize) -> Result<Vec<u64>, AllocError>
-    ensures { IfOk result (λ words. words.items ≡ replicate count 0) }
+// What a desk keeps at the start: that each cell is free, and that it has offered no granule.
+fn nothing_told(alloc: Global, cells: u8) -> Result<(DeskRecord, Vec<Option<u64>>), AllocError>
+    requires some { 0 < cells }
+    ensures { IfOk result (λ made. (made.0 ≡ fresh_desk cells) × (made.1.items ≡ replicate cells None)) }
 {
-    vec![in alloc; 0u64; count]
+    let kept = DeskRecord::new(alloc, cells)?;
+    let granules = nones(alloc, usize::from(cells))?;
+    Ok((kept, granules))
 }
 
 fn nones(alloc: Global, count: usize) -> Result<Vec<Option<u64>>, AllocError>
     ensures { IfOk result (λ granules. granules.items ≡ replicate count None) }
 {
     vec![in alloc; None; count]
+}
+
+// Lanes of as many empty cells as there are blanks, and the token of their desk.
+fn empty_lanes<T: Numbered>(
+    alloc: Global,
+    blanks: Vec<T>,
+) -> Result<(Lanes<T>, Token<T>), AllocError>
+    requires limit { vec_len blanks ≤ 64 }
+    ensures { IfOk result (λ made. (made.0.shared.table_id.slots ≡ vec_len blanks) × (made.0.shared.table_id.words ≡ vec_len blanks + 2) × (made.1.table_id ≡ made.0.shared.table_id) × (made.1.me ≡ (opening_knowledge (vec_len blanks), []))) }
+{
+    let cells = blanks.len();
+    let words = zeros(alloc, cells + 2)?;
+    let slots = filled(alloc, blanks)?;
+    let Ok(made) = Lanes::<T>::new(alloc, words.as_slice(), slots, &cells) else {
+        return Err(AllocError);
+    };
+    Ok(made)
+}
+
+fn zeros(alloc: Global, count: usize) -> Result<Vec<u64>, AllocError>
+    ensures { IfOk result (λ words. words.items ≡ replicate count 0) }
+{
+    vec![in alloc; 0u64; count]
 }
 
 fn filled<T: Numbered>(alloc: Global, blanks: Vec<T>) -> Result<Vec<Option<T>>, AllocError>
