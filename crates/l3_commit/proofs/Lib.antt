@@ -11,3 +11,4 @@ pub mod Encodings
 pub mod Rests
 pub mod Offering
 pub mod Fits
+pub mod Kept

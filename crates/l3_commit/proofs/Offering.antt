@@ -1,5 +1,5 @@
 -- The loop that offers granules ahead.
-use Rattle.std.proofs.Common.{◌≡◌, ◌≢◌, ◌∙◌, sym, ap, subst, refl, ⊎_elim, ℕ, zero, suc, ◌+◌, ◌%◌, ◌<◌, ◌≤◌, List, ◌∷◌, replicate, length, map, get_or, arith}
+use Rattle.std.proofs.Common.{◌≡◌, ◌≢◌, ◌∙◌, ◌⊎◌, sym, ap, subst, refl, inl, inr, ⊎_elim, ℕ, zero, suc, ◌+◌, ◌*◌, ◌%◌, ◌<◌, ◌≤◌, List, ◌∷◌, replicate, length, map, get_or, arith}
 use Rattle.std.proofs.lemmas.Bool.{cases_lt, eq-eqb}
 use Rattle.std.proofs.Math.ListN.{get_or-map}
 use Rattle.std.specs.Prelude.{Option, Some, None}
@@ -100,3 +100,24 @@ none-told (suc n) = ap (λ xs. None ∷ xs) (none-told n)
 -- a desk that begins goes with a committer that has offered nothing
 pub goes-fresh : (n : ℕ) (desk : DeskState) (v : OffersView) → desk ≡ fresh_desk n → v ≡ no_offers n → GoesWith desk.last v
 goes-fresh n desk v is fresh = ap (λ (d : DeskState). map told_of d.last) is ∙ (none-told n ∙ sym (ap (λ (o : OffersView). o.placed) fresh))
+
+-- what one granule of the loop asks, in plain numbers: `at` is from `from` on and below `to`, which is
+-- no farther than the cells
+pub not-past : (limit at to : ℕ) → limit < at → at < to → to ≤ limit → ⊥
+not-past limit at to past below most = omega arith
+
+pub some-cells : (from at to cells : ℕ) → from ≤ at → at < to → to ≤ from + cells → 0 < cells
+some-cells from at to cells low below most = omega arith
+
+pub near-next : (next from at to placed cells granule : ℕ) → next ≡ from → from ≤ at → at < to → to ≤ from + cells → placed ≡ cells → granule ≡ at → (next ≤ granule) × (granule < next + placed)
+near-next next from at to placed cells granule e low below most long same = (omega arith, omega arith)
+
+pub kept-there : (base from at to cells ahead granule : ℕ) → base ≡ from → from ≤ at → at < to → to ≤ from + cells → cells ≤ ahead → granule ≡ at → (base ≤ granule) × (granule < base + ahead)
+kept-there base from at to cells ahead granule e low below most few same = (omega arith, omega arith)
+
+enough-read : (from at to cells ahead granule read : ℕ) → at < to → to ≤ from + cells → cells ≤ ahead → granule ≡ at → 576 * (from + ahead) ≤ read → 576 * (granule + 1) ≤ read
+enough-read from at to cells ahead granule read below most few same enough = omega arith
+
+pub read-there : (Ended : Type 0) (from at to cells ahead granule read : ℕ) → at < to → to ≤ from + cells → cells ≤ ahead → granule ≡ at → Ended ⊎ (576 * (from + ahead) ≤ read) → Ended ⊎ (576 * (granule + 1) ≤ read)
+read-there Ended from at to cells ahead granule read below most few same (inl ended) = inl ended
+read-there Ended from at to cells ahead granule read below most few same (inr enough) = inr (enough-read from at to cells ahead granule read below most few same enough)
