@@ -3,6 +3,7 @@ pub mod Cells
 pub mod LaneLemmas
 pub mod AllPass
 pub mod Slices
+pub mod Greatest
 pub mod Lengths
 pub mod SplitLemmas
 pub mod QuadCells
