@@ -36,8 +36,7 @@ fn check_rows<R: Abort + Wait>(
 ) -> Result<(), AllocError>
     requires { (0 < cells) × (cells ≤ 64) }
 {
-    let (board, mut desk, seats) = board(rt, alloc, 1, cells)?;
-    check(rt, &board, &mut desk, seats, cells, rows);
+    check(rt, board(rt, alloc, 1, cells)?, cells, rows);
     Ok(())
 }
 

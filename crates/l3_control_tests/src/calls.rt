@@ -131,6 +131,11 @@ fn shown<B: Board<Item = Item>, R: Wait>(
     }
 }
 
+/// Asserts this of the row of a number, which a failure names.
+pub fn check_that<R: Abort>(rt: &R, right: bool, number: usize) {
+    assert!(rt; right, "number {number}");
+}
+
 // Makes the call of a row, and asserts what it shows and what the desk keeps then.
 fn check_call<D: Keeps, B: Board<Item = Item, Desk = D>, R: Abort + Wait>(
     rt: &R,
@@ -148,9 +153,8 @@ fn check_call<D: Keeps, B: Board<Item = Item, Desk = D>, R: Abort + Wait>(
     ensures seat { B.has_seat board.now seat.new }
     ensures job { B.claimed seat.new ≡ job.new }
 {
-    let (call, answer, kept, _) = *row;
-    let shown = shown(rt, board, desk, seat, job, call);
-    assert!(rt; (shown, entry(desk)) == (answer, kept), "call {at}");
+    let shown = shown(rt, board, desk, seat, job, row.0);
+    check_that(rt, (shown, entry(desk)) == (row.1, row.2), at);
 }
 
 fn check_each<D: Keeps, B: Board<Item = Item, Desk = D>, R: Abort + Wait>(
@@ -170,23 +174,31 @@ fn check_each<D: Keeps, B: Board<Item = Item, Desk = D>, R: Abort + Wait>(
     }
 }
 
-/// Checks a board as it begins, and then the calls of these rows, by its desk and one of its seats.
-pub fn check<D: Keeps, B: Board<Item = Item, Desk = D>, R: Abort + Wait>(
+// Asserts how a board of so many cells begins.
+fn check_start<D: Keeps, B: Board<Item = Item, Desk = D>, R: Abort>(
     rt: &R,
     board: &B,
-    desk: &mut D,
-    seats: Vec<B::Seat>,
+    desk: &D,
+    cells: u8,
+) {
+    assert!(rt; (board.ahead(), entry(desk)) == (cells, (Entry::Free, 0, 0)));
+}
+
+/// Checks a board of so many cells as it begins, and then the calls of these rows, by its desk and
+/// one of its seats.
+pub fn check<D: Keeps, B: Board<Item = Item, Desk = D> + Drop, R: Abort + Wait>(
+    rt: &R,
+    made: (B, D, Vec<B::Seat>),
     cells: u8,
     rows: &[Row],
 )
-    requires desk { B.has_desk board.now desk.old }
-    requires seats { All (λ seat. B.has_seat board.now seat × (B.claimed seat ≡ None)) seats.items }
+    requires desk { B.has_desk made.0 made.1 }
+    requires seats { All (λ seat. B.has_seat made.0 seat × (B.claimed seat ≡ None)) made.2.items }
 {
-    assert!(rt; board.ahead() == cells);
-    assert!(rt; entry(desk) == (Entry::Free, 0, 0));
-    let mut seats = seats;
+    let (board, mut desk, mut seats) = made;
+    check_start(rt, &board, &desk, cells);
     let Some(mut seat) = seats.pop() else {
         panic!(rt; "no seat")
     };
-    check_each(rt, board, desk, &mut seat, rows);
+    check_each(rt, &board, &mut desk, &mut seat, rows);
 }

@@ -39,11 +39,10 @@ fn boxed_guesses(alloc: Global) -> Result<Option<(u32, u32)>, AllocError> {
 }
 
 #[test]
-fn guesses_of_mean_last_flat(rt: HostRuntime) -> Result<(), AllocError> {
+fn guesses_of_mean_last_flat(rt: HostRuntime) {
     let wanted = [Some((0, 15)), Some((15, 4)), Some((0, 21)), Some((7, 7))];
     assert!(rt; guesses_of_each() == wanted);
-    assert!(rt; boxed_guesses(rt.alloc())? == Some((0, 21)));
-    Ok(())
+    assert!(rt; boxed_guesses(rt.alloc()) == Ok(Some((0, 21))));
 }
 
 fn panel_of(
@@ -78,32 +77,47 @@ fn score_at(panel: &Panel, place: usize) -> Option<u128> {
     }
 }
 
-// The scores of a panel told these reserves, and its guess for granule 2.
-fn told(panel: &mut Panel, reserves: &[u32]) -> (Option<u128>, Option<u128>, Option<u32>) {
+// Two scores of a panel, and its guess for granule 2.
+type Told = (Option<u128>, Option<u128>, Option<u32>);
+
+// Those of a panel told these reserves.
+fn told(panel: &mut Panel, reserves: &[u32]) -> Told {
     tell_all(panel, reserves);
     let guess = GranuleNo::new(2).map(|number| panel.guess(number));
     (score_at(panel, 0), score_at(panel, 1), guess)
 }
 
+// Those of a panel of two, and what two calls drop from it then.
+fn told_then_dropped(alloc: Global) -> Result<(Told, [Option<usize>; 2]), AllocError> {
+    let mut panel = two_flat(alloc, 0, 4088)?;
+    let told = told(&mut panel, &[100, 200]);
+    Ok((told, [panel.drop_worst(), panel.drop_worst()]))
+}
+
 #[test]
-fn panel_scores(rt: HostRuntime) -> Result<(), AllocError> {
-    let mut panel = two_flat(rt.alloc(), 0, 4088)?;
-    assert!(rt; told(&mut panel, &[100, 200]) == (Some(300), Some(7876), Some(0)));
-    assert!(rt; panel.drop_worst() == Some(1));
-    assert!(rt; panel.drop_worst() == None);
-    Ok(())
+fn panel_scores(rt: HostRuntime) {
+    let told = (Some(300), Some(7876), Some(0));
+    assert!(rt; told_then_dropped(rt.alloc()) == Ok((told, [Some(1), None])));
+}
+
+// Those of a panel of two after 255, 256, 511, 512 and 767 reserves.
+fn told_on_and_on(alloc: Global) -> Result<[Told; 5], AllocError> {
+    let mut panel = two_flat(alloc, 0, 10)?;
+    Ok([
+        told(&mut panel, &[0; 255]),
+        told(&mut panel, &[0]),
+        told(&mut panel, &[0; 255]),
+        told(&mut panel, &[0]),
+        told(&mut panel, &[0; 255]),
+    ])
 }
 
 // At the 256th tell one of two goes, and none at the 512th.
 #[test]
-fn worst_member_is_dropped(rt: HostRuntime) -> Result<(), AllocError> {
-    let mut panel = two_flat(rt.alloc(), 0, 10)?;
-    assert!(rt; told(&mut panel, &[0; 255]) == (Some(0), Some(2550), Some(0)));
-    for _ in 0..2 {
-        assert!(rt; told(&mut panel, &[0]) == (Some(0), None, Some(0)));
-        assert!(rt; told(&mut panel, &[0; 255]) == (Some(0), None, Some(0)));
-    }
-    Ok(())
+fn worst_member_is_dropped(rt: HostRuntime) {
+    let two = (Some(0), Some(2550), Some(0));
+    let one = (Some(0), None, Some(0));
+    assert!(rt; told_on_and_on(rt.alloc()) == Ok([two, one, one, one, one]));
 }
 
 #[test]

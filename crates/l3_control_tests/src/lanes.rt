@@ -6,7 +6,7 @@ ghost use Rattle.l3_lanes.specs.Calls.{IsDeskOf, IsSeatOf, claimed};
 use crate::calls::check;
 use crate::item::{Item, blanks};
 use crate::rows::{FOUR_CELLS, ONE_CELL, Row};
-use crate::sharing::{Plan, Sharing, Tally, share};
+use crate::sharing::{Plan, Sharing, Tally, share_all};
 use l3_lanes::{LaneBoard, LaneDesk, LaneSeat};
 use std::alloc::{AllocError, Global};
 use std::process::Abort;
@@ -36,8 +36,7 @@ fn check_rows<R: Abort + Wait>(
 ) -> Result<(), AllocError>
     requires { (0 < cells) × (cells ≤ 64) }
 {
-    let (board, mut desk, seats) = board(alloc, 1, cells)?;
-    check(rt, &board, &mut desk, seats, cells, rows);
+    check(rt, board(alloc, 1, cells)?, cells, rows);
     Ok(())
 }
 
@@ -51,24 +50,29 @@ fn board_of_one_cell(rt: HostRuntime) -> Result<(), AllocError> {
     check_rows(&rt, rt.alloc(), 1, &ONE_CELL)
 }
 
-// What a desk has at the end that offers and takes granules 0 to 99 beside so many workers.
-fn tally<R: Threads + Wait + Sync>(rt: &R, alloc: Global, workers: u8) -> Result<Tally, AllocError>
-    requires { (0 < workers) × (workers ≤ 16) }
-{
-    let (board, mut desk, seats) = board(alloc, workers, 4)?;
-    let sharing = Sharing::new(Plan::ThreeAhead, 100);
-    Ok(share(rt, &board, &mut desk, seats, &sharing))
-}
-
+// Whether four at least are placed, all that are placed are found, and the sum is right.
+//
 // Granule n becomes 7 n + 3, so all from 0 to 99 come to 7 * 4950 + 300, on one thread as on any
 // number.
+fn is_right(tally: &Tally) -> bool {
+    (tally.placed >= 4, tally.found, tally.sum) == (true, tally.placed, 34950)
+}
+
+// Whether a desk that offers and takes granules 0 to 99 beside so many workers has the right tally at
+// the end.
+fn shares_all<R: Threads + Wait + Sync>(
+    rt: &R,
+    alloc: Global,
+    workers: u8,
+) -> Result<bool, AllocError>
+    requires { (0 < workers) × (workers ≤ 16) }
+{
+    let sharing = Sharing::new(Plan::ThreeAhead, 100);
+    Ok(is_right(&share_all(rt, board(alloc, workers, 4)?, &sharing)))
+}
+
 #[test]
-fn workers_beside_the_desk(rt: HostRuntime) -> Result<(), AllocError> {
-    for workers in [1, 3] {
-        let tally = tally(&rt, rt.alloc(), workers)?;
-        assert!(rt; tally.placed >= 4);
-        assert!(rt; tally.found == tally.placed);
-        assert!(rt; tally.sum == 34950);
-    }
-    Ok(())
+fn workers_beside_the_desk(rt: HostRuntime) {
+    assert!(rt; shares_all(&rt, rt.alloc(), 1) == Ok(true));
+    assert!(rt; shares_all(&rt, rt.alloc(), 3) == Ok(true));
 }

@@ -1,6 +1,7 @@
 //! The board as a machine.
 
 use crate::answers::{Shown, of_claim, of_deposit, of_offer, of_take};
+use crate::calls::check_that;
 use crate::item::{Item, blanks, marked};
 use crate::rows::{Call, FOUR_CELLS, ONE_CELL, Row};
 use l3_core::{Answer, Cell, Core, Event};
@@ -56,47 +57,65 @@ fn state(board: &Core<Item>) -> (Cell, usize) {
     (board.state(0), board.held())
 }
 
-// Makes the call of a row, and asserts what it shows and what becomes of cell 0.
-fn check_call<R: Abort>(rt: &R, board: &mut Core<Item>, at: usize, row: &Row) {
-    let (call, answer, _, cell) = *row;
-    let shown = served(board, event(call));
-    let held = usize::from(cell != Cell::Empty);
-    assert!(rt;
-        (shown, state(board)) == (answer, (cell, held)),
-        "call {at}"
-    );
+// The same where cell 0 alone may be held, and is in this state.
+fn wanted(cell: Cell) -> (Cell, usize) {
+    (cell, usize::from(cell != Cell::Empty))
 }
 
-fn check<R: Abort>(rt: &R, board: &mut Core<Item>) {
-    assert!(rt; board.ahead() == 4);
-    assert!(rt; served(board, event(Call::Deposit(5, 9))) == ("stray", 5, 9));
+// Makes the call of a row, and asserts what it shows and what becomes of cell 0.
+fn check_call<R: Abort>(rt: &R, board: &mut Core<Item>, at: usize, row: &Row) {
+    let shown = served(board, event(row.0));
+    check_that(rt, (shown, state(board)) == (row.1, wanted(row.3)), at);
+}
+
+fn check_each<R: Abort>(rt: &R, board: &mut Core<Item>) {
     for (at, row) in FOUR_CELLS.iter().enumerate() {
         check_call(rt, board, at, row);
     }
 }
 
+// The number of cells of a new board, and what a deposit at it shows.
+fn start(board: &mut Core<Item>) -> (u8, Shown) {
+    (board.ahead(), served(board, event(Call::Deposit(5, 9))))
+}
+
+fn check<R: Abort>(rt: &R, mut board: Core<Item>) {
+    assert!(rt; start(&mut board) == (4, ("stray", 5, 9)));
+    check_each(rt, &mut board);
+}
+
 #[test]
 fn board_rows(rt: HostRuntime) -> Result<(), AllocError> {
-    let mut board = Core::new(rt.alloc(), blanks(rt.alloc(), 4)?)?;
-    check(&rt, &mut board);
+    check(&rt, Core::new(rt.alloc(), blanks(rt.alloc(), 4)?)?);
     Ok(())
 }
 
-// The answers of a board of one cell to these calls.
-fn answers(alloc: Global, rows: &[Row]) -> Result<Vec<Answer<Item>>, AllocError> {
-    let mut board = Core::new(alloc, blanks(alloc, 1)?)?;
-    let events = events(alloc, rows)?;
+// The answers of a board to these events.
+fn answers_of(
+    alloc: Global,
+    mut board: Core<Item>,
+    events: Vec<Event<Item>>,
+) -> Result<Vec<Answer<Item>>, AllocError> {
     let mut answers = Vec::with_capacity(alloc, events.len())?;
     board.run(events, &mut answers);
     Ok(answers)
 }
 
+// Those of a board of one cell to these calls.
+fn answers(alloc: Global, rows: &[Row]) -> Result<Vec<Answer<Item>>, AllocError> {
+    let events = events(alloc, rows)?;
+    answers_of(alloc, Core::new(alloc, blanks(alloc, 1)?)?, events)
+}
+
+fn check_answers<R: Abort>(rt: &R, answers: Vec<Answer<Item>>, rows: &[Row]) {
+    for (at, row) in rows.iter().enumerate() {
+        let answer = answers.get(at).map(|answer| shown(answer));
+        check_that(rt, answer == Some(row.1), at);
+    }
+}
+
 #[test]
 fn board_of_one_cell(rt: HostRuntime) -> Result<(), AllocError> {
-    let answers = answers(rt.alloc(), &ONE_CELL)?;
-    for (at, row) in ONE_CELL.iter().enumerate() {
-        let answer = answers.get(at).map(|answer| shown(answer));
-        assert!(rt; answer == Some(row.1), "call {at}");
-    }
+    check_answers(&rt, answers(rt.alloc(), &ONE_CELL)?, &ONE_CELL);
     Ok(())
 }

@@ -4,6 +4,7 @@ ghost use Rattle.std.specs.Prelude.{◌≡◌, ◌+◌, ◌<◌, ◌≤◌, All,
 ghost use Rattle.l3_board.specs.Offers.{GoesWith};
 
 use crate::board::board;
+use crate::calls::check_that;
 use crate::item::{Item, marked};
 use l3_board::{Board, Offers, fresh_desks};
 use l3_core::{Claim, Deposit};
@@ -55,12 +56,8 @@ fn check_offers<B: Board<Item = Item>, R: Abort>(
         return;
     }
     for row in rows {
-        let (number, mark, back) = *row;
-        let item = marked(u64::from(number), mark);
-        assert!(rt;
-            offered(offers, board, desk, item) == back,
-            "granule {number}"
-        );
+        let back = offered(offers, board, desk, marked(u64::from(row.0), row.1));
+        check_that(rt, back == row.2, usize::from(row.0));
     }
 }
 
@@ -134,30 +131,29 @@ fn check_takes<B: Board<Item = Item>, R: Abort>(
 }
 
 // Offers ahead, takes, and offers behind that, where the worker at the seat hands in one of two.
-fn check_all<B: Board<Item = Item>, R: Abort>(
+fn check_all<B: Board<Item = Item> + Drop, R: Abort>(
     rt: &R,
-    offers: &mut Offers,
-    board: &B,
-    desk: &mut B::Desk,
-    seats: Vec<B::Seat>,
+    mut offers: Offers,
+    made: (B, B::Desk, Vec<B::Seat>),
 )
-    requires made { B.has_desk board.now desk.old }
-    requires cells { length offers.old.placed ≡ B.cells board.now }
-    requires goes { GoesWith (B.last desk.old) offers.old }
-    requires next { offers.old.next ≡ 0 }
-    requires seats { All (λ seat. B.has_seat board.now seat × (B.claimed seat ≡ None)) seats.items }
+    requires made { B.has_desk made.0 made.1 }
+    requires cells { length offers.placed ≡ B.cells made.0 }
+    requires goes { GoesWith (B.last made.1) offers }
+    requires next { offers.next ≡ 0 }
+    requires seats { All (λ seat. B.has_seat made.0 seat × (B.claimed seat ≡ None)) made.2.items }
 {
-    check_offers(rt, offers, board, desk, &AHEAD);
-    assert!(rt; one_of_two_is_handed_in(board, seats));
-    check_takes(rt, offers, board, desk);
-    check_offers(rt, offers, board, desk, &BEHIND);
+    let (board, mut desk, seats) = made;
+    check_offers(rt, &mut offers, &board, &mut desk, &AHEAD);
+    assert!(rt; one_of_two_is_handed_in(&board, seats));
+    check_takes(rt, &mut offers, &board, &mut desk);
+    check_offers(rt, &mut offers, &board, &mut desk, &BEHIND);
 }
 
 #[test]
 fn offered_ahead_and_taken_in_order(rt: HostRuntime) -> Result<(), AllocError> {
-    let mut offers = Offers::new(rt.alloc(), 2)?;
-    let (board, mut desk, seats) = board(&rt, rt.alloc(), 1, 2)?;
+    let offers = Offers::new(rt.alloc(), 2)?;
+    let made = board(&rt, rt.alloc(), 1, 2)?;
     fresh_desks();
-    check_all(&rt, &mut offers, &board, &mut desk, seats);
+    check_all(&rt, offers, made);
     Ok(())
 }

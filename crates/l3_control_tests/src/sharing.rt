@@ -1,6 +1,6 @@
 //! Workers, each on a thread of its own, beside the desk of any board.
 
-ghost use Rattle.std.specs.Prelude.{◌≡◌, ◌≤◌, All, None};
+ghost use Rattle.std.specs.Prelude.{◌≡◌, ◌≤◌, All, None, true};
 ghost use Rattle.std.specs.Thread.{IsSync};
 
 use crate::item::{Item, marked};
@@ -59,6 +59,14 @@ pub struct Tally {
     pub sum: u64,
 }
 
+impl Tally {
+    fn add(&mut self, placed: u64, found: u64, mark: u64) {
+        self.placed = self.placed.saturating_add(placed);
+        self.found = self.found.saturating_add(found);
+        self.sum = self.sum.saturating_add(mark);
+    }
+}
+
 // Lets the others get on for a while.
 fn pause() {
     for _ in 0..1000 {
@@ -72,21 +80,46 @@ fn worked(number: u64) -> u64 {
     number.saturating_mul(7).saturating_add(3)
 }
 
-// A worker: it counts what it claims, works and hands in, until the board is shut.
+// An item once a worker has worked on it by the plan.
+fn done(plan: Plan, item: &Item) -> Item
+    ensures { result.number ≡ item.now.number }
+{
+    let mark = match plan {
+        Plan::OneByOne => item.mark,
+        Plan::ThreeAhead => worked(item.number),
+    };
+    marked(item.number, mark)
+}
+
+// Claims a granule, counts it, works and hands in, unless the board is shut: whether it is not.
+fn does_a_job<B: Board<Item = Item>, R: Wait>(
+    rt: &R,
+    board: &B,
+    seat: &mut B::Seat,
+    sharing: &Sharing,
+) -> bool
+    requires made { B.has_seat board.now seat.old }
+    requires free { B.claimed seat.old ≡ None }
+    ensures made { B.has_seat board.now seat.new }
+    ensures free { result ≡ true → B.claimed seat.new ≡ None }
+{
+    let Claim::Job(item) = board.claim_wait(rt, seat) else {
+        return false;
+    };
+    sharing.claimed.fetch_add(1, Ordering::SeqCst);
+    board.deposit(seat, done(sharing.plan, &item));
+    true
+}
+
+// A worker, which does jobs until the board is shut.
 fn work<B: Board<Item = Item>, R: Wait>(rt: &R, board: &B, seat: &mut B::Seat, sharing: &Sharing)
     requires made { B.has_seat board.now seat.old }
     requires free { B.claimed seat.old ≡ None }
 {
     for _ in rt.forever() {
-        let Claim::Job(item) = board.claim_wait(rt, seat) else {
+        if !does_a_job(rt, board, seat, sharing) {
             break;
-        };
-        sharing.claimed.fetch_add(1, Ordering::SeqCst);
-        let mark = match sharing.plan {
-            Plan::OneByOne => item.mark,
-            Plan::ThreeAhead => worked(item.number),
-        };
-        board.deposit(seat, marked(item.number, mark));
+        }
     }
     sharing.gone.fetch_add(1, Ordering::SeqCst);
 }
@@ -137,34 +170,29 @@ fn offer_one_by_one<B: Board<Item = Item>>(board: &B, desk: &mut B::Desk, sharin
     pause();
 }
 
-// Offers a granule, which nobody has worked on.
-fn offer_next<B: Board<Item = Item>>(board: &B, desk: &mut B::Desk, number: u64, tally: &mut Tally)
+// Offers a granule, which nobody has worked on: how many are placed.
+fn offer_next<B: Board<Item = Item>>(board: &B, desk: &mut B::Desk, number: u64) -> u64
     requires made { B.has_desk board.now desk.old }
     requires limit { number ≤ 8589934592 }
     ensures made { B.has_desk board.now desk.new }
 {
-    if let Offer::Placed(_) = board.offer(desk, marked(number, 0)) {
-        tally.placed = tally.placed.saturating_add(1);
+    match board.offer(desk, marked(number, 0)) {
+        Offer::Placed(_) => 1,
+        Offer::Busy(_) => 0,
     }
 }
 
-// Takes a granule, and works on it where no worker has done so.
-fn take_next<B: Board<Item = Item>>(
-    board: &B,
-    desk: &mut B::Desk,
-    number: GranuleNo,
-    tally: &mut Tally,
-)
+// Takes a granule, and works on it where no worker has done so: how many are found, and what it
+// becomes.
+fn take_next<B: Board<Item = Item>>(board: &B, desk: &mut B::Desk, number: GranuleNo) -> (u64, u64)
     requires made { B.has_desk board.now desk.old }
     ensures made { B.has_desk board.now desk.new }
 {
-    let (found, mark) = match board.take(desk, number, marked(0, 0)) {
+    match board.take(desk, number, marked(0, 0)) {
         Take::Got(item) => (1, item.mark),
         Take::Revoked(_) | Take::InWork(_) => (1, worked(number.get())),
         Take::NotOffered(_) => (0, worked(number.get())),
-    };
-    tally.found = tally.found.saturating_add(found);
-    tally.sum = tally.sum.saturating_add(mark);
+    }
 }
 
 fn offer_three_ahead<B: Board<Item = Item>>(
@@ -179,10 +207,11 @@ fn offer_three_ahead<B: Board<Item = Item>>(
     let granules = u64::from(sharing.granules);
     for number in 0..granules + 3 {
         if number < granules {
-            offer_next(board, desk, number, tally);
+            tally.add(offer_next(board, desk, number), 0, 0);
         }
         if let Some(next) = number.checked_sub(3).and_then(GranuleNo::new) {
-            take_next(board, desk, next, tally);
+            let (found, mark) = take_next(board, desk, next);
+            tally.add(0, found, mark);
         }
     }
 }
@@ -204,8 +233,8 @@ fn serve<B: Board<Item = Item>>(board: &B, desk: &mut B::Desk, sharing: &Sharing
     tally
 }
 
-/// The desk beside a worker for each seat, up to the last to end.
-pub fn share<B: Board<Item = Item> + Sync, R: Threads + Wait + Sync>(
+// The desk beside a worker for each seat, up to the last to end.
+fn share<B: Board<Item = Item> + Sync, R: Threads + Wait + Sync>(
     rt: &R,
     board: &B,
     desk: &mut B::Desk,
@@ -228,4 +257,17 @@ pub fn share<B: Board<Item = Item> + Sync, R: Threads + Wait + Sync>(
         { serve(board, desk, sharing) },
     );
     tally
+}
+
+/// The desk of a board beside a worker for each of its seats, up to the last to end.
+pub fn share_all<B: Board<Item = Item> + Sync + Drop, R: Threads + Wait + Sync>(
+    rt: &R,
+    made: (B, B::Desk, Vec<B::Seat>),
+    sharing: &Sharing,
+) -> Tally
+    requires desk { B.has_desk made.0 made.1 }
+    requires seats { All (λ seat. B.has_seat made.0 seat × (B.claimed seat ≡ None)) made.2.items }
+{
+    let (board, mut desk, seats) = made;
+    share(rt, &board, &mut desk, seats, sharing)
 }

@@ -3,7 +3,7 @@
 ghost use Rattle.std.specs.Prelude.{◌<◌, ◌≤◌};
 
 use crate::board::board;
-use crate::sharing::{Plan, Sharing, share};
+use crate::sharing::{Plan, Sharing, share_all};
 use std::alloc::{AllocError, Global};
 use std::sync::Wait;
 use std::thread::Threads;
@@ -18,25 +18,21 @@ fn counts<R: Threads + Wait + Sync>(
 ) -> Result<(u64, u64), AllocError>
     requires { (0 < workers) × (workers ≤ 16) }
 {
-    let (board, mut desk, seats) = board(rt, alloc, workers, 4)?;
     let sharing = Sharing::new(Plan::OneByOne, granules);
-    let _ = share(rt, &board, &mut desk, seats, &sharing);
+    share_all(rt, board(rt, alloc, workers, 4)?, &sharing);
     Ok(sharing.counts())
 }
 
 // The four cells take an offer each, and no other call of the desk rings before the last is
 // claimed: where an offer rings no bell the desk waits for ever, and the time limit ends the test.
 #[test]
-fn an_offer_wakes_a_worker_that_waits(rt: HostRuntime) -> Result<(), AllocError> {
-    for workers in [1, 3] {
-        assert!(rt; counts(&rt, rt.alloc(), workers, 4)? == (4, u64::from(workers)));
-    }
-    Ok(())
+fn an_offer_wakes_a_worker_that_waits(rt: HostRuntime) {
+    assert!(rt; counts(&rt, rt.alloc(), 1, 4) == Ok((4, 1)));
+    assert!(rt; counts(&rt, rt.alloc(), 3, 4) == Ok((4, 3)));
 }
 
 // Where the shut wakes one worker alone, the others wait for ever.
 #[test]
-fn the_shut_wakes_every_worker(rt: HostRuntime) -> Result<(), AllocError> {
-    assert!(rt; counts(&rt, rt.alloc(), 3, 0)? == (0, 3));
-    Ok(())
+fn the_shut_wakes_every_worker(rt: HostRuntime) {
+    assert!(rt; counts(&rt, rt.alloc(), 3, 0) == Ok((0, 3)));
 }

@@ -29,28 +29,18 @@ fn blanks(alloc: Global) -> Result<Vec<PieceBox>, AllocError>
     Ok(blanks)
 }
 
-// A board of four cells, its desk and its seats, and one piece more.
+// A board of four cells, its desk and its seats.
 fn board<'a, R: Wait>(
     rt: &'a R,
     alloc: Global,
     workers: u8,
-) -> Result<
-    (
-        LockBoard<'a, PieceBox, R>,
-        LockDesk,
-        Vec<LockSeat>,
-        PieceBox,
-    ),
-    AllocError,
->
+) -> Result<(LockBoard<'a, PieceBox, R>, LockDesk, Vec<LockSeat>), AllocError>
     requires workers { (0 < workers) × (workers ≤ 16) }
     ensures cells { IfOk result (λ made. made.0 ≡ 4) }
     ensures desk { IfOk result (λ made. made.1 ≡ fresh_desk 4) }
     ensures seats { IfOk result (λ made. All (λ seat. seat ≡ None) made.2.items) }
 {
-    let piece = blank(alloc)?;
-    let (board, desk, seats) = LockBoard::new(rt, alloc, workers, blanks(alloc)?)?;
-    Ok((board, desk, seats, piece))
+    LockBoard::new(rt, alloc, workers, blanks(alloc)?)
 }
 
 // The piece with a granule whose samples are zeros.
@@ -152,29 +142,32 @@ fn works_at_a_seat<B: Board<Item = PieceBox>, R: Wait>(
 }
 
 // Offers a granule, has it made, and takes it: whether it came presumed.
-fn comes_presumed<B: Board<Item = PieceBox>, R: Wait>(
+fn comes_presumed<B: Board<Item = PieceBox> + Drop, R: Wait>(
     rt: &R,
-    board: &B,
-    desk: &mut B::Desk,
-    seats: Vec<B::Seat>,
+    made: (B, B::Desk, Vec<B::Seat>),
     piece: PieceBox,
 ) -> bool
-    requires desk { B.has_desk board.now desk.old }
-    requires seats { All (λ seat. B.has_seat board.now seat × (B.claimed seat ≡ None)) seats.items }
+    requires desk { B.has_desk made.0 made.1 }
+    requires seats { All (λ seat. B.has_seat made.0 seat × (B.claimed seat ≡ None)) made.2.items }
 {
     let Some(first) = GranuleNo::new(0) else {
         return false;
     };
-    let (spare, placed) = offered(board, desk, first, piece);
-    let made = placed && works_at_a_seat(rt, board, desk, seats);
-    made && taken(board, desk, first, spare).1
+    let (board, mut desk, seats) = made;
+    let (spare, placed) = offered(&board, &mut desk, first, piece);
+    let made = placed && works_at_a_seat(rt, &board, &mut desk, seats);
+    made && taken(&board, &mut desk, first, spare).1
+}
+
+// The same on a board under a lock.
+fn a_job_comes_presumed<R: Wait>(rt: &R, alloc: Global) -> Result<bool, AllocError> {
+    let piece = blank(alloc)?;
+    Ok(comes_presumed(rt, board(rt, alloc, 1)?, piece))
 }
 
 #[test]
-fn a_job_comes_back_presumed(rt: HostRuntime) -> Result<(), AllocError> {
-    let (board, mut desk, seats, piece) = board(&rt, rt.alloc(), 1)?;
-    assert!(rt; comes_presumed(&rt, &board, &mut desk, seats, piece));
-    Ok(())
+fn a_job_comes_back_presumed(rt: HostRuntime) {
+    assert!(rt; a_job_comes_presumed(&rt, rt.alloc()) == Ok(true));
 }
 
 // Counts the jobs.
@@ -283,25 +276,38 @@ fn serve_beside<B: Board<Item = PieceBox> + Sync, R: Threads + Wait + Sync>(
     count
 }
 
-// How many of four granules come presumed from two workers.
+// The same of a board with its desk and its seats.
+fn serve_all<B: Board<Item = PieceBox> + Sync + Drop, R: Threads + Wait + Sync>(
+    rt: &R,
+    made: (B, B::Desk, Vec<B::Seat>),
+    gate: &Counting,
+    piece: PieceBox,
+) -> u64
+    requires desk { B.has_desk made.0 made.1 }
+    requires seats { All (λ seat. B.has_seat made.0 seat × (B.claimed seat ≡ None)) made.2.items }
+{
+    let (board, mut desk, seats) = made;
+    serve_beside(rt, &board, &mut desk, seats, gate, piece)
+}
+
+// Whether two at least of four granules come presumed from two workers, and how many jobs these
+// have had.
 fn presumed_ahead<R: Threads + Wait + Sync>(
     rt: &R,
     alloc: Global,
-    gate: &Counting,
-) -> Result<u64, AllocError> {
-    let (board, mut desk, seats, piece) = board(rt, alloc, 2)?;
-    Ok(serve_beside(rt, &board, &mut desk, seats, gate, piece))
+) -> Result<(bool, u64), AllocError> {
+    let piece = blank(alloc)?;
+    let made = board(rt, alloc, 2)?;
+    let gate = Counting {
+        jobs: AtomicU64::new(0),
+    };
+    let count = serve_all(rt, made, &gate, piece);
+    Ok((count >= 2, gate.jobs.load(Ordering::SeqCst)))
 }
 
 // A worker hands in what it has before its next claim. So once two workers, or one alone, have had
 // four jobs, two at least are handed in, and none of these is other than presumed.
 #[test]
-fn two_workers_presume_ahead(rt: HostRuntime) -> Result<(), AllocError> {
-    let gate = Counting {
-        jobs: AtomicU64::new(0),
-    };
-    let count = presumed_ahead(&rt, rt.alloc(), &gate)?;
-    assert!(rt; count >= 2);
-    assert!(rt; gate.jobs.load(Ordering::SeqCst) == 4);
-    Ok(())
+fn two_workers_presume_ahead(rt: HostRuntime) {
+    assert!(rt; presumed_ahead(&rt, rt.alloc()) == Ok((true, 4)));
 }
