@@ -4,7 +4,9 @@ ghost use Rattle.l3_stream.specs.Side.{side_bytes};
 use crate::rows::check_row;
 use l3_base::{Channels, Rate, SampleRate, Settings};
 use l3_bits::put_bits;
-use l3_stream::{ChosenFrame, QuadTable, Unit, is_coded, read_header, read_side, write_header, write_side};
+use l3_stream::{
+    ChosenFrame, QuadTable, Unit, is_coded, read_header, read_side, write_header, write_side,
+};
 
 fn settings_of(rate: Rate, sample_rate: SampleRate, channels: Channels) -> Settings
     ensures { result.channels ≡ channels }
