@@ -7,10 +7,10 @@ use Rattle.std.proofs.lemmas.List.Elements.{All-nil, All-cons, All-head, All-tai
 use Rattle.l3_base.specs.Amp.{IsAmp, no_amp}
 use Rattle.l3_base.specs.Spectrum.{IsLine}
 use Rattle.l3_base.proofs.ChoosingLemmas.{first_least-first}
-use Rattle.l3_tables.specs.Lists.{tabulate}
-use Rattle.l3_tables.proofs.ListLemmas.{get_or-tabulate, length-tabulate}
+use Rattle.l3_base.specs.Lists.{tabulate}
+use Rattle.l3_base.proofs.ListLemmas.{get_or-tabulate, length-tabulate}
 use Rattle.l3_count.specs.Bands.{edges_at}
-use Rattle.l3_noise.specs.Noise.{compress_of, is_over, part2_of, raised, scalefactor_bits, slen1_of, slen2_of}
+use Rattle.l3_search.specs.Noise.{compress_of, is_over, part2_of, raised, scalefactor_bits, slen1_of, slen2_of}
 use Rattle.l3_search.proofs.Fits.{pick_there}
 use Rattle.l3_analysis.specs.Rounds.{AmpsRiseByOne, ChosenHasFewestOver, ChosenIsWithin, IsRoundWithin, Round, RoundsAreFew, RoundsAreWithin, allowed_in, chosen_round, first_round, goes_on, next_amp, part2_bits, round_of, rounds_after, rounds_of}
 

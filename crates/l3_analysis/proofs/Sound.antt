@@ -7,7 +7,7 @@ use Rattle.l3_base.specs.declared.settings.Settings.{Settings}
 use Rattle.l3_base.specs.declared.slots.Window.{Window}
 use Rattle.l3_base.specs.Amp.{no_amp}
 use Rattle.l3_base.specs.Rates.{channels_of}
-use Rattle.l3_mdct.specs.Spectrum.{spectrum_of}
+use Rattle.l3_transform.specs.Spectrum.{spectrum_of}
 use Rattle.l3_count.specs.Bands.{band_edges}
 use Rattle.l3_count.specs.Memo.{IsMemoOf, LaneView, empty_memo, lane_of}
 use Rattle.l3_count.proofs.Memos.{amp-new}

@@ -5,8 +5,8 @@ use Rattle.l3_base.specs.declared.rate.Channels.TheVariants.{Mono, Stereo}
 use Rattle.l3_base.specs.declared.rate.SampleRate.{SampleRate}
 use Rattle.l3_base.specs.Amp.{no_amp}
 use Rattle.l3_base.specs.Rates.{hertz_index_of}
-use Rattle.l3_mdct.specs.Spectrum.{spectrum_of}
-use Rattle.l3_energy.specs.Demand.{demand_of}
+use Rattle.l3_transform.specs.Spectrum.{spectrum_of}
+use Rattle.l3_transform.specs.Demand.{demand_of}
 use Rattle.l3_count.specs.Bands.{band_edges}
 use Rattle.l3_count.specs.Memo.{IsMemoOf, empty_memo, lane_of}
 use Rattle.l3_count.proofs.Memos.{IsMemoOf-empty, amp-new}

@@ -7,8 +7,8 @@ use Rattle.l3_base.specs.declared.settings.Settings.{Settings}
 use Rattle.l3_base.specs.declared.slots.Window.{Window}
 use Rattle.l3_base.specs.Amp.{no_amp}
 use Rattle.l3_base.specs.Rates.{hertz_index_of}
-use Rattle.l3_mdct.specs.Spectrum.{spectrum_of}
-use Rattle.l3_energy.specs.Demand.{demand_of}
+use Rattle.l3_transform.specs.Spectrum.{spectrum_of}
+use Rattle.l3_transform.specs.Demand.{demand_of}
 use Rattle.l3_count.specs.Bands.{band_edges}
 use Rattle.l3_count.specs.Memo.{IsMemoOf, empty_memo, lane_of}
 use Rattle.l3_analysis.specs.declared.analysis.Analysis.{Analysis}

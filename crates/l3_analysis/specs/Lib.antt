@@ -17,14 +17,15 @@ pub use Rattle.l3_search.specs.Laws as SearchLaws
 pub use Rattle.l3_search.specs.Lengths
 pub use Rattle.l3_search.specs.Budget
 pub use Rattle.l3_search.specs.ReserveLaws
-pub use Rattle.l3_energy.specs.Demand
-pub use Rattle.l3_mdct.specs.Lists
-pub use Rattle.l3_mdct.specs.Sums
-pub use Rattle.l3_mdct.specs.Filterbank
-pub use Rattle.l3_mdct.specs.Spectrum as Transform
+pub use Rattle.l3_transform.specs.Demand
+pub use Rattle.l3_transform.specs.Lists
+pub use Rattle.l3_transform.specs.Sums
+pub use Rattle.l3_transform.specs.Filterbank
+pub use Rattle.l3_transform.specs.Spectrum as Transform
 pub mod Analysis
 pub mod Lending
 pub mod Piece
 pub mod Presumed
-pub use Rattle.l3_noise.specs.Noise
+pub use Rattle.l3_search.specs.Noise
 pub mod Rounds
+pub mod Work

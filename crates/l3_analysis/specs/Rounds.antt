@@ -5,10 +5,10 @@ use Rattle.std.specs.Prelude.{◌≡◌, ℕ, zero, suc, ◌+◌, ◌-◌, ◌<�
 use Rattle.l3_base.specs.Amp.{IsAmp, no_amp}
 use Rattle.l3_base.specs.Choosing.{first_least, IsFirstLeast}
 use Rattle.l3_base.specs.Spectrum.{IsLine}
-use Rattle.l3_energy.specs.Demand.{energies_of}
+use Rattle.l3_transform.specs.Demand.{energies_of}
 use Rattle.l3_count.specs.Bands.{edges_at}
 use Rattle.l3_count.specs.Count.{Counted}
-use Rattle.l3_noise.specs.Noise.{allowances_of, bands_over, noises_of, part2_of, raised}
+use Rattle.l3_search.specs.Noise.{allowances_of, bands_over, noises_of, part2_of, raised}
 use Rattle.l3_search.specs.Gain.{picked, picked_gain}
 
 -- a round: its amplification, the gain that is picked under it, and how many bands are over

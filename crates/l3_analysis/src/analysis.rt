@@ -1,9 +1,9 @@
 ghost use Rattle.std.specs.Prelude.{◌≡◌, ◌≤◌, ◌<◌, ◌+◌, ◌^◌, All, Some, replicate, pos};
 ghost use Rattle.l3_base.specs.Amp.{no_amp};
 ghost use Rattle.l3_base.specs.Rates.{hertz_index_of};
-ghost use Rattle.l3_mdct.specs.Sums.{IsWithin};
-ghost use Rattle.l3_mdct.specs.Spectrum.{lines_of, spectrum_of};
-ghost use Rattle.l3_energy.specs.Demand.{demand_of};
+ghost use Rattle.l3_transform.specs.Sums.{IsWithin};
+ghost use Rattle.l3_transform.specs.Spectrum.{lines_of, spectrum_of};
+ghost use Rattle.l3_transform.specs.Demand.{demand_of};
 ghost use Rattle.l3_count.specs.Bands.{band_edges};
 ghost use Rattle.l3_count.specs.Gains.{first_gain_of};
 ghost use Rattle.l3_count.specs.Memo.{IsMemoOf, empty_memo, lane_of};
@@ -12,10 +12,8 @@ ghost use Rattle.l3_analysis.specs.Presumed.{budget_under, reserve_after};
 
 use l3_base::{Amp, SampleRate, Settings, Slots36, Spectrum, Steps};
 use l3_count::Memo;
-use l3_energy::demand;
-use l3_mdct::spectrum;
-use l3_polyphase::{Kept, slots36};
 use l3_search::{Picked, Reserve, pick};
+use l3_transform::{Kept, demand, slots36, spectrum};
 use std::sync::ledger::Ledger;
 
 // What is made of one channel of a granule.

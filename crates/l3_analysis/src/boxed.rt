@@ -4,7 +4,7 @@ ghost use Rattle.std.specs.Borrow.{sem};
 use crate::piece::Piece;
 use crate::stage::Stage;
 use l3_base::Settings;
-use l3_core::Numbered;
+use l3_board::Numbered;
 use std::alloc::{AllocError, Global};
 use std::marker::Model;
 

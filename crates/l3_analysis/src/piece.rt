@@ -5,8 +5,8 @@ use crate::analysis::Analysis;
 use crate::stage::Stage;
 use l3_base::{Channels, GranuleNo, Settings, Spectrum, Steps, Window};
 use l3_count::Memo;
-use l3_polyphase::Kept;
 use l3_search::{Picked, Reserve};
+use l3_transform::Kept;
 use std::marker::Model;
 use std::sync::ledger::Ledger;
 

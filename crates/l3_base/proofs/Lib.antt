@@ -1,3 +1,10 @@
 pub mod ChoosingLemmas
 pub mod Remainders
 pub mod FirstLemmas
+pub mod Entries
+pub mod ListLemmas
+pub mod SumLemmas
+pub mod Circles
+pub mod SlotLemmas
+pub mod FloorLemmas
+pub mod Edges

@@ -5,9 +5,9 @@ use Rattle.std.proofs.Math.Seq.{map-set_same}
 use Rattle.std.proofs.lemmas.List.{map-set}
 use Rattle.std.proofs.lemmas.Bool.{eq-eqb}
 use Rattle.std.specs.Prelude.{Bool, true, false, Option, Some, None, is_some}
-use Rattle.l3_core.specs.declared.event.Offer.TheVariants as offer
-use Rattle.l3_core.specs.declared.event.Take.{Take}
-use Rattle.l3_core.specs.declared.event.Take.TheVariants.{Got, Revoked, InWork, NotOffered}
+use Rattle.l3_board.specs.declared.event.Offer.TheVariants as offer
+use Rattle.l3_board.specs.declared.event.Take.{Take}
+use Rattle.l3_board.specs.declared.event.Take.TheVariants.{Got, Revoked, InWork, NotOffered}
 use Rattle.l3_board.specs.declared.entry.Entry.{Entry}
 use Rattle.l3_board.specs.declared.entry.Entry.TheVariants.{Free, Told, Busied, Left, Gone}
 use Rattle.l3_board.specs.Desk.{entry_of, offer_entry, take_entry, taken_entry}

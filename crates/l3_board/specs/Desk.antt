@@ -1,10 +1,10 @@
 -- The desk's record: what it was last told of each cell, how far it was served, and with how much
 -- work done.
 use Rattle.std.specs.Prelude.{ℕ, ◌+◌, ◌%◌, ◌==◌, Bool, false, not, ◌&&◌, if◌then◌else◌, List, replicate, slice_index_or, slice_set}
-use Rattle.l3_core.specs.declared.event.Offer.{Offer}
-use Rattle.l3_core.specs.declared.event.Offer.TheVariants.{Placed, Busy}
-use Rattle.l3_core.specs.declared.event.Take.{Take}
-use Rattle.l3_core.specs.declared.event.Take.TheVariants.{Got, Revoked, InWork, NotOffered}
+use Rattle.l3_board.specs.declared.event.Offer.{Offer}
+use Rattle.l3_board.specs.declared.event.Offer.TheVariants.{Placed, Busy}
+use Rattle.l3_board.specs.declared.event.Take.{Take}
+use Rattle.l3_board.specs.declared.event.Take.TheVariants.{Got, Revoked, InWork, NotOffered}
 use Rattle.l3_board.specs.declared.entry.Entry.{Entry}
 use Rattle.l3_board.specs.declared.entry.Entry.TheVariants.{Free, Told, Busied, Left, Gone}
 

@@ -1,13 +1,14 @@
 ghost use Rattle.std.specs.Prelude.{◌≡◌, ◌≢◌, ◌≤◌, ◌<◌, ℕ, List, Option, Some, None, length};
-ghost use Rattle.l3_core.specs.declared.event.Offer.TheVariants.{Busy};
-ghost use Rattle.l3_core.specs.declared.event.Claim.TheVariants.{Job, Nothing, Shut};
-ghost use Rattle.l3_core.specs.declared.event.Deposit.TheVariants.{Stray};
-ghost use Rattle.l3_core.specs.declared.event.Take.TheVariants.{Got, Revoked, InWork, NotOffered};
+ghost use Rattle.l3_board.specs.declared.event.Offer.TheVariants.{Busy};
+ghost use Rattle.l3_board.specs.declared.event.Claim.TheVariants.{Job, Nothing, Shut};
+ghost use Rattle.l3_board.specs.declared.event.Deposit.TheVariants.{Stray};
+ghost use Rattle.l3_board.specs.declared.event.Take.TheVariants.{Got, Revoked, InWork, NotOffered};
 ghost use Rattle.l3_board.specs.declared.entry.Entry.{Entry};
 ghost use Rattle.l3_board.specs.Desk.{entry_of, last_after_offer, last_after_take, served_after, got_after};
 
+use crate::event::{Claim, Deposit, Offer, Take};
+use crate::item::Numbered;
 use l3_base::GranuleNo;
-use l3_core::{Claim, Deposit, Numbered, Offer, Take};
 use std::sync::Wait;
 
 /// A board of cells between one desk, which offers granules and takes them, and workers' seats,

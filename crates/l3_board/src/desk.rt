@@ -2,8 +2,9 @@ ghost use Rattle.std.specs.Prelude.{◌≡◌, ◌<◌, ◌%◌, IfOk, length};
 ghost use Rattle.l3_board.specs.Desk.{fresh_desk, entry_of, last_after_offer, last_after_take, served_after, got_after, work_got};
 
 use crate::entry::Entry;
+use crate::event::{Offer, Take};
+use crate::item::Numbered;
 use l3_base::GranuleNo;
-use l3_core::{Numbered, Offer, Take};
 use std::alloc::{AllocError, Global};
 use std::marker::Model;
 

@@ -1,7 +1,7 @@
 ghost use Rattle.std.specs.Prelude.{◌≡◌};
 ghost use Rattle.l3_board.specs.Desk.{offer_entry, take_entry, taken_entry, is_offered};
 
-use l3_core::{Offer, Take};
+use crate::event::{Offer, Take};
 
 /// What a desk was last told of a cell, with the number of the granule that it was about.
 #[derive(Clone, Copy, Debug, PartialEq, Eq)]

@@ -3,8 +3,10 @@ ghost use Rattle.l3_board.specs.Desk.{fresh_desk};
 
 use crate::board::Board;
 use crate::desk::DeskRecord;
+use crate::event::{Claim, Deposit, Offer, Take};
+use crate::item::Numbered;
+use crate::machine::Core;
 use l3_base::GranuleNo;
-use l3_core::{Claim, Core, Deposit, Numbered, Offer, Take};
 use std::alloc::{AllocError, Global};
 use std::marker::Model;
 use std::sync::{Condvar, Mutex, Wait};

@@ -4,8 +4,9 @@ ghost use Rattle.l3_board.specs.Desk.{entry_of, is_offered};
 ghost use Rattle.l3_board.specs.Offers.{told_of, no_offers, placed_at, AreAhead, IsNear, GoesWith, IsOfferedAnew, OthersStay, HasEnded};
 
 use crate::board::Board;
+use crate::event::{Offer, Take};
+use crate::item::Numbered;
 use l3_base::GranuleNo;
-use l3_core::{Numbered, Offer, Take};
 use std::alloc::{AllocError, Global};
 use std::marker::Model;
 

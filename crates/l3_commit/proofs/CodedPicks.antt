@@ -15,7 +15,7 @@ use Rattle.l3_search.specs.Gain.{picked, picked_gain}
 use Rattle.l3_search.proofs.Fits.{counted_at, pick_there}
 use Rattle.l3_stream.specs.Units.{IsCodedUnit}
 use Rattle.l3_commit.specs.Units.{ChosenUnitsAreCoded, IsCountIn, unit_of, unit_within}
-use Rattle.l3_tables.specs.Bands.{band_edges}
+use Rattle.l3_base.specs.Bands.{band_edges}
 use Rattle.l3_commit.proofs.CodedUnits.{coded_at_gain}
 
 -- what is picked: the gain is one of 0 to 255, the spectrum

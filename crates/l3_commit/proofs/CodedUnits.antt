@@ -18,14 +18,14 @@ use Rattle.l3_region.specs.Laws.{HoldsAll, MayTake, pairs_taken}
 use Rattle.l3_region.specs.Regions.{pair_bits_in, quad_bits_in, regions_of}
 use Rattle.l3_region.specs.Split.{end_of_pairs, is_zero_from, quad_values_of, split_of, zero_from}
 use Rattle.l3_region.specs.declared.split.Split.{Split}
-use Rattle.l3_tables.proofs.Edges.{edge_even, edge_order, index_small}
+use Rattle.l3_base.proofs.Edges.{edge_even, edge_order, index_small}
 use Rattle.l3_region.proofs.Slices.{length-slice, slice_range-split}
 use Rattle.l3_region.proofs.SplitLemmas.{split_ones, split_places, split_within, zero_past, zeros-all}
 use Rattle.l3_stream.specs.Units.{IsCodedUnit, edge, pairs_of, quads_of, table_at, zero_lines}
 use Rattle.l3_stream.specs.declared.unit.Unit.{Unit}
 use Rattle.l3_stream.proofs.Shapes.{unit_length, zeros_of_count}
 use Rattle.l3_commit.specs.Units.{unit_at_gain, unit_of}
-use Rattle.l3_tables.specs.Bands.{band_edges}
+use Rattle.l3_base.specs.Bands.{band_edges}
 use Rattle.l3_commit.proofs.CodedLines.{ArePairs, AreQuads, HasTable, pairs_in_table, pairs_joined, quads_of_ones}
 
 -- ---- the regions of lines

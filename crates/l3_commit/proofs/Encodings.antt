@@ -3,10 +3,10 @@ use Rattle.std.proofs.Common.{◌≡◌, refl, ℕ, zero, suc, ◌^◌, List, le
 use Rattle.std.specs.Prelude.{ℤ}
 use Rattle.l3_base.specs.Spectrum.{IsLine, IsSpectrum}
 use Rattle.l3_base.specs.Lengths.{frames_for}
-use Rattle.l3_tables.specs.Sums.{IsWithin}
-use Rattle.l3_tables.proofs.ListLemmas.{length-tabulate}
-use Rattle.l3_mdct.specs.Spectrum.{spectrum_of_granule, lines_of}
-use Rattle.l3_mdct.proofs.Reduction.{spectrum_is_bounded}
+use Rattle.l3_base.specs.Sums.{IsWithin}
+use Rattle.l3_base.proofs.ListLemmas.{length-tabulate}
+use Rattle.l3_transform.specs.Spectrum.{spectrum_of_granule, lines_of}
+use Rattle.l3_transform.proofs.Reduction.{spectrum_is_bounded}
 use Rattle.l3_stream.proofs.StreamReading.{one_reading}
 use Rattle.l3_commit.specs.Encoding.{spectra_of, frames_chosen, encoding_of}
 use Rattle.l3_commit.specs.Laws.{AreSpectra, AreSamples, ChosenFit, ChosenAlone}

@@ -8,9 +8,9 @@ use Rattle.l3_base.specs.declared.rate.Channels.TheVariants.{Mono, Stereo}
 use Rattle.l3_base.specs.declared.rate.SampleRate.{SampleRate}
 use Rattle.l3_base.specs.Rates.{channels_of, hertz_index_of}
 use Rattle.l3_base.specs.Lengths.{mean_bits_of, mmax_of}
-use Rattle.l3_energy.specs.Demand.{demand_of}
+use Rattle.l3_transform.specs.Demand.{demand_of}
 use Rattle.l3_search.specs.Budget.{budget_of, left_by}
-use Rattle.l3_tables.specs.Bands.{band_edges}
+use Rattle.l3_base.specs.Bands.{band_edges}
 use Rattle.l3_quant.specs.Quantiser.{quantised_lines}
 use Rattle.l3_quant.specs.Gains.{first_gain_of}
 use Rattle.l3_count.specs.Count.{Counted, count_of}

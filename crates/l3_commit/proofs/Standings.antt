@@ -5,8 +5,8 @@ use Rattle.l3_base.specs.declared.settings.Settings.{Settings}
 use Rattle.l3_base.specs.declared.rate.Channels.{Channels}
 use Rattle.l3_base.specs.declared.rate.Channels.TheVariants.{Mono, Stereo}
 use Rattle.l3_base.specs.Lengths.{granules_for}
-use Rattle.l3_tables.specs.Filterbank.{window_of}
-use Rattle.l3_mdct.specs.Spectrum.{spectrum_of}
+use Rattle.l3_base.specs.Filterbank.{window_of}
+use Rattle.l3_transform.specs.Spectrum.{spectrum_of}
 use Rattle.l3_analysis.specs.Piece.{PieceView, spectrum_in}
 use Rattle.l3_wav.specs.Holding.{WindowsView, Holds, GoesOn}
 use Rattle.l3_stream.specs.declared.unit.ChosenFrame.{ChosenFrame}

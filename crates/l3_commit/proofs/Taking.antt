@@ -11,7 +11,7 @@ use Rattle.l3_search.specs.Gain.{tried_of}
 use Rattle.l3_stream.specs.declared.unit.Unit.{Unit}
 use Rattle.l3_stream.specs.Frames.{blank}
 use Rattle.l3_commit.specs.Units.{unit_within}
-use Rattle.l3_tables.specs.Bands.{band_edges}
+use Rattle.l3_base.specs.Bands.{band_edges}
 use Rattle.l3_commit.specs.Choice.{budget_at, unit_chosen, after_unit, granule_by, reserve_by, granule_chosen, after_granule}
 use Rattle.l3_commit.specs.Tried.{unit_tried, granule_tried_by, granule_tried}
 

@@ -8,7 +8,7 @@ use Rattle.l3_base.specs.declared.rate.Channels.TheVariants.{Mono, Stereo}
 use Rattle.l3_base.specs.Lengths.{mean_bits_of, mmax_of}
 use Rattle.l3_base.specs.Rates.{hertz_index_of}
 use Rattle.l3_base.specs.Spectrum.{IsSpectrum}
-use Rattle.l3_energy.specs.Demand.{demand_of}
+use Rattle.l3_transform.specs.Demand.{demand_of}
 use Rattle.l3_search.specs.Budget.{budget_of, left_by, begin_after}
 use Rattle.l3_stream.specs.declared.unit.Unit.{Unit}
 use Rattle.l3_stream.specs.declared.unit.ChosenFrame.{ChosenFrame}

@@ -2,7 +2,7 @@
 use Rattle.std.specs.Prelude.{ℕ, zero, suc, List, length, ℤ}
 use Rattle.l3_base.specs.declared.settings.Settings.{Settings}
 use Rattle.l3_base.specs.Lengths.{frames_for}
-use Rattle.l3_mdct.specs.Spectrum.{spectrum_of_granule}
+use Rattle.l3_transform.specs.Spectrum.{spectrum_of_granule}
 use Rattle.l3_stream.specs.declared.unit.ChosenFrame.{ChosenFrame}
 use Rattle.l3_stream.specs.Tape.{stream_of}
 use Rattle.l3_commit.specs.Choice.{Spectra, frames_before}

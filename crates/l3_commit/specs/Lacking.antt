@@ -4,7 +4,7 @@ use Rattle.std.specs.List.{sum}
 use Rattle.l3_base.specs.Amp.{no_amp}
 use Rattle.l3_base.specs.Rates.{channels_of}
 use Rattle.l3_base.specs.declared.settings.Settings.{Settings}
-use Rattle.l3_tables.specs.Bands.{band_edges}
+use Rattle.l3_base.specs.Bands.{band_edges}
 use Rattle.l3_quant.specs.Gains.{first_gain_of}
 use Rattle.l3_search.specs.Gain.{HasLaneTo, lacking, picked_gain}
 use Rattle.l3_analysis.specs.Piece.{PieceView, IsChannel, channels_in, counts_in, edges_in, memo_in, spectrum_in}

@@ -3,7 +3,7 @@ use Rattle.std.specs.Prelude.{◌≡◌, ℕ, ◌≤◌, ◌^◌, List, All, len
 use Rattle.l3_base.specs.declared.settings.Settings.{Settings}
 use Rattle.l3_base.specs.Lengths.{mmax_of, slots_before, frames_for}
 use Rattle.l3_base.specs.Spectrum.{IsSpectrum}
-use Rattle.l3_tables.specs.Sums.{IsWithin}
+use Rattle.l3_base.specs.Sums.{IsWithin}
 use Rattle.l3_stream.specs.declared.unit.ChosenFrame.{ChosenFrame}
 use Rattle.l3_stream.specs.Units.{lengths}
 use Rattle.l3_stream.specs.Frames.{units_of, code_bits, IsCoded}

@@ -6,7 +6,7 @@ use Rattle.l3_base.specs.declared.settings.Settings.{Settings}
 use Rattle.l3_base.specs.declared.rate.Channels.{Channels}
 use Rattle.l3_base.specs.declared.rate.Channels.TheVariants.{Mono, Stereo}
 use Rattle.l3_search.specs.Gain.{tried_of}
-use Rattle.l3_tables.specs.Bands.{band_edges}
+use Rattle.l3_base.specs.Bands.{band_edges}
 use Rattle.l3_commit.specs.Choice.{Spectra, budget_at, after_unit, reserve_at_start, reserve_between, begin_before}
 
 -- at a unit of frame n

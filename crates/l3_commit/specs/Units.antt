@@ -5,7 +5,7 @@ use Rattle.l3_base.specs.Amp.{no_amp}
 use Rattle.l3_base.specs.Spectrum.{IsLine}
 use Rattle.l3_base.specs.declared.settings.Settings.{Settings}
 use Rattle.l3_count.specs.Count.{Counted, count_of, counted}
-use Rattle.l3_tables.specs.Bands.{band_edges}
+use Rattle.l3_base.specs.Bands.{band_edges}
 use Rattle.l3_search.specs.Quantiser.{quantised_lines}
 use Rattle.l3_search.specs.Gain.{picked_gain}
 use Rattle.l3_stream.specs.Units.{IsCodedUnit}

@@ -1,7 +1,7 @@
 //! Which pieces are fit for the granule that comes next, and how others are made fit.
 
 ghost use Rattle.std.specs.Prelude.{◌≡◌, ◌+◌, ◌*◌, ◌<◌, ◌≤◌, ◌⊎◌, ◌↔◌, true, false, ℕ, ℤ, List};
-ghost use Rattle.l3_tables.specs.Filterbank.{window_of};
+ghost use Rattle.l3_base.specs.Filterbank.{window_of};
 ghost use Rattle.l3_wav.specs.Holding.{Holds};
 ghost use Rattle.l3_analysis.specs.declared.stage.Stage.TheVariants.{Transformed};
 ghost use Rattle.l3_analysis.specs.Piece.{HasSpectra, no_memos};
@@ -9,7 +9,7 @@ ghost use Rattle.l3_commit.specs.Ahead.{IsFit, IsFitTo};
 
 use l3_analysis::{Piece, PieceBox, Stage};
 use l3_base::{GranuleNo, Settings, Window};
-use l3_polyphase::Kept;
+use l3_transform::Kept;
 use l3_wav::Windows;
 
 // Whether two windows of a channel have the same samples.

@@ -8,7 +8,7 @@ ghost use Rattle.l3_analysis.specs.declared.stage.Stage.TheVariants.{Transformed
 use crate::pieces::{blank, load, settings};
 use l3_analysis::{Piece, PieceBox, Stage};
 use l3_base::{GranuleNo, Steps};
-use l3_core::Numbered;
+use l3_board::Numbered;
 use std::alloc::{AllocError, Global};
 use std::marker::Brand;
 use std::sync::ledger::{Blank, Ledger};

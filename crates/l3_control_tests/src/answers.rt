@@ -2,7 +2,7 @@
 //! with it, or zeros.
 
 use crate::item::Item;
-use l3_core::{Claim, Deposit, Offer, Take};
+use l3_board::{Claim, Deposit, Offer, Take};
 
 pub type Shown = (&'static str, u64, u64);
 

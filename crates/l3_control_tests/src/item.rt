@@ -2,7 +2,7 @@
 
 ghost use Rattle.std.specs.Prelude.{◌≡◌, ◌≤◌, ◌<◌, IfOk, vec_len};
 
-use l3_core::Numbered;
+use l3_board::Numbered;
 use std::alloc::{AllocError, Global};
 
 /// An item of a granule, with a mark of its own, which is its work too.

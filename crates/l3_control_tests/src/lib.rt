@@ -4,8 +4,8 @@
 //! The contracts say what an answer means. That the definitions they say it by are those that were
 //! meant, which answer a board under a lock gives, and that those who wait are woken: this is shown
 //! by tests alone.
-//! Before: `l3_core`, `l3_board`, `l3_lanes`, `l3_guess`, `l3_analysis` and `l3_workers`, which are
-//! tested here. After: nothing.
+//! Before: `l3_board`, `l3_lanes`, `l3_guess` and `l3_analysis`, which are tested here. After:
+//! nothing.
 #![tactic(auto)]
 
 #[cfg(test)]

@@ -4,7 +4,7 @@ use crate::answers::{Shown, of_claim, of_deposit, of_offer, of_take};
 use crate::calls::check_that;
 use crate::item::{Item, blanks, marked};
 use crate::rows::{Call, FOUR_CELLS, ONE_CELL, Row};
-use l3_core::{Answer, Cell, Core, Event};
+use l3_board::{Answer, Cell, Core, Event};
 use std::alloc::{AllocError, Global};
 use std::process::Abort;
 

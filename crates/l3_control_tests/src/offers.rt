@@ -6,8 +6,7 @@ ghost use Rattle.l3_board.specs.Offers.{GoesWith};
 use crate::board::board;
 use crate::calls::check_that;
 use crate::item::{Item, marked};
-use l3_board::{Board, Offers, fresh_desks};
-use l3_core::{Claim, Deposit};
+use l3_board::{Board, Claim, Deposit, Offers, fresh_desks};
 use std::alloc::AllocError;
 use std::process::Abort;
 

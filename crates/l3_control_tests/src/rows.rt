@@ -2,8 +2,7 @@
 //! lock and of the board without locks.
 
 use crate::answers::Shown;
-use l3_board::Entry;
-use l3_core::Cell;
+use l3_board::{Cell, Entry};
 
 /// A call: an item is given by its granule's number and its mark, and so is a take's spare.
 #[derive(Clone, Copy)]

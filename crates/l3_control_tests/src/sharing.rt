@@ -5,8 +5,7 @@ ghost use Rattle.std.specs.Thread.{IsSync};
 
 use crate::item::{Item, marked};
 use l3_base::GranuleNo;
-use l3_board::Board;
-use l3_core::{Claim, Offer, Take};
+use l3_board::{Board, Claim, Offer, Take};
 use std::sync::Wait;
 use std::sync::atomic::{AtomicU64, Ordering};
 use std::thread::{Threads, for_each_mut, join_mut, yield_now};

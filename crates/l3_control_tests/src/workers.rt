@@ -5,12 +5,10 @@ ghost use Rattle.std.specs.Thread.{IsSync};
 ghost use Rattle.l3_board.specs.Desk.{fresh_desk};
 
 use crate::pieces::{blank, load};
-use l3_analysis::{PieceBox, Stage};
+use l3_analysis::{Gate, OpenGate, PieceBox, Stage, analyse, work, work_all};
 use l3_base::{GranuleNo, Steps};
-use l3_board::{Board, LockBoard, LockDesk, LockSeat};
-use l3_core::{Claim, Deposit, Offer, Take};
-use l3_polyphase::Kept;
-use l3_workers::{Gate, OpenGate, analyse, work, work_all};
+use l3_board::{Board, Claim, Deposit, LockBoard, LockDesk, LockSeat, Offer, Take};
+use l3_transform::Kept;
 use std::alloc::{AllocError, Global};
 use std::marker::Brand;
 use std::sync::Wait;

@@ -9,7 +9,7 @@ use Rattle.l3_quant.specs.Amplified.{quantised_bands}
 use Rattle.l3_quant.proofs.BandLemmas.{quantised_bands-long}
 use Rattle.l3_region.specs.Lanes.{IsClass}
 use Rattle.l3_region.specs.Pairs.{ArePairsOf}
-use Rattle.l3_planes.specs.Marks.{ArePacked}
+use Rattle.l3_count.specs.Marks.{ArePacked}
 
 pub quantised_pairs : (edges amp : List ℕ) (gain : ℕ) (lines : List ℤ) (pairs classes : List ℕ) →
     length lines ≡ 576 →

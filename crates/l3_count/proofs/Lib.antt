@@ -4,3 +4,13 @@ pub mod Tops
 pub mod Memos
 pub mod Costs
 pub mod Zeros
+pub mod PlaneCuts
+pub mod Ranks
+pub mod Constants
+pub mod Lines
+pub mod PlaneCounts
+pub mod Ends
+pub mod Classes
+pub mod GainLemmas
+pub mod MarkLemmas
+pub mod Codable

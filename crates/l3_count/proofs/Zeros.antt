@@ -6,9 +6,9 @@ use Rattle.std.proofs.lemmas.List.{get_or-replicate}
 use Rattle.std.proofs.lemmas.List.Elements.{All-from_get_or}
 use Rattle.l3_base.specs.declared.rate.SampleRate.{SampleRate}
 use Rattle.l3_base.specs.Rates.{hertz_index_of}
-use Rattle.l3_tables.specs.Bands.{band_edges, edge_at}
-use Rattle.l3_tables.specs.Lists.{entry}
-use Rattle.l3_tables.proofs.Edges.{index_small}
+use Rattle.l3_base.specs.Bands.{band_edges, edge_at}
+use Rattle.l3_base.specs.Lists.{entry}
+use Rattle.l3_base.proofs.Edges.{index_small}
 use Rattle.l3_huff.specs.Tables.{greatest_of}
 use Rattle.l3_quant.specs.Quantiser.{magnitude_at, steps_of}
 use Rattle.l3_quant.specs.Amplified.{band_gain, band_of, quantised_bands}

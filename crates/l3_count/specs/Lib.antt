@@ -12,8 +12,13 @@ pub use Rattle.l3_region.specs.Pairs
 pub use Rattle.l3_region.specs.Split
 pub use Rattle.l3_region.specs.Regions
 pub use Rattle.l3_region.specs.Laws as RegionLaws
-pub use Rattle.l3_planes.specs.Units as PlanesOfUnits
 pub mod Count
 pub mod Laws
 pub mod Memo
 pub mod Cost
+pub mod Planes
+pub mod Rows
+pub mod Marks
+pub mod Ends
+pub mod Classes
+pub mod Units

@@ -4,12 +4,12 @@ ghost use Rattle.l3_quant.specs.Amplified.{quantised_bands};
 ghost use Rattle.l3_region.specs.Bands.{band_edges};
 ghost use Rattle.l3_region.specs.Pairs.{ArePairsOf};
 ghost use Rattle.l3_region.specs.Split.{split_of};
-ghost use Rattle.l3_planes.specs.Units.{ArePlanesOf};
+ghost use Rattle.l3_count.specs.Units.{ArePlanesOf};
 ghost use Rattle.l3_count.specs.Count.{count_of};
 
 use crate::count::Count;
+use crate::unit::{Planes, classes_at, is_codable_at, no_planes, pairs_at, set, split_at};
 use l3_base::{Amp, SampleRate, Spectrum, Steps};
-use l3_planes::{Planes, classes_at, is_codable_at, no_planes, pairs_at, set, split_at};
 use l3_quant::line_peaks;
 use l3_region::{Split, split_of_pairs};
 use std::sync::ledger::Ledger;

@@ -4,8 +4,7 @@
 //! What they give is compared with worked values from outside the program, and with plain programs
 //! that go by the rule alone: quantised values (`quant_plain`), regions (`region_plain`), and
 //! counts by the values themselves.
-//! Before: `l3_quant`, `l3_region`, `l3_planes`, `l3_count`, `l3_noise` and `l3_search`,
-//! which are tested here.
+//! Before: `l3_quant`, `l3_region`, `l3_count` and `l3_search`, which are tested here. After: nothing.
 #![tactic(auto)]
 
 #[cfg(test)]

@@ -3,8 +3,8 @@ ghost use Rattle.std.specs.Prelude.{◌≡◌, ◌<◌, ◌≤◌};
 use crate::inputs::{check_row, spectrum};
 use l3_base::{Amp, SampleRate, Spectrum, Steps};
 use l3_count::count_at;
-use l3_energy::energies;
-use l3_noise::{Part2, allowed, noise, over, part2_of, raise};
+use l3_search::{Part2, allowed, noise, over, part2_of, raise};
+use l3_transform::energies;
 use std::marker::Brand;
 use std::sync::ledger::{Blank, Ledger};
 

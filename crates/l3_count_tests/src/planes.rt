@@ -1,6 +1,6 @@
 use crate::inputs::{amplification, check_row, spectrum};
 use l3_base::SampleRate;
-use l3_planes::{Planes, classes_at, is_codable_at, no_planes, pairs_at, set, split_at};
+use l3_count::{Planes, classes_at, is_codable_at, no_planes, pairs_at, set, split_at};
 use l3_quant::line_peaks;
 
 // The planes of a spectrum of the line 1 alone, as 2^24, are made.

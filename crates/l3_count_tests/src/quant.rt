@@ -2,9 +2,8 @@ ghost use Rattle.std.specs.Prelude.{◌<◌, ◌≤◌, ◌^◌, ◌≤ℤ◌, p
 
 use crate::inputs::{check_row, spectrum};
 use crate::quant_plain::{plain_line, plain_values};
-use l3_base::{Amp, SampleRate, Spectrum};
+use l3_base::{Amp, SampleRate, Spectrum, edge};
 use l3_quant::{all, all_amp, first_gain, first_gain_amp, line, line_peaks, reconstruct};
-use l3_tables::edge;
 
 // The quantised value of a line, by the crate and by the plain program.
 fn values_of(x: i32, gain: u8) -> [Option<u16>; 2] {

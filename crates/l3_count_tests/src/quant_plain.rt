@@ -4,7 +4,7 @@
 
 ghost use Rattle.std.specs.Prelude.{◌≤◌, IfSome};
 
-use l3_tables::quarter;
+use l3_base::quarter;
 
 // The greatest absolute value of a quantised line; the limit is this project's own.
 const GREATEST: u16 = 8191;

@@ -5,9 +5,9 @@
 ghost use Rattle.std.specs.Prelude.{◌≤◌, All, unsigned_abs};
 ghost use Rattle.std.specs.Bool.{OnTrue};
 
+use l3_base::edge;
 use l3_huff::{holds, pair_bits, quad_bits};
 use l3_region::{QuadTable, Regions, Split};
-use l3_tables::edge;
 
 // The tables of the profile, in rising order.
 const TABLES: [u8; 20] = [

@@ -3,3 +3,7 @@ pub mod Says
 pub mod FileStreams
 pub mod Turned
 pub mod Fresh
+pub mod Pushed
+pub mod Counts
+pub mod Loop
+pub mod SoFar

@@ -19,9 +19,9 @@ use Rattle.l3_commit.specs.declared.report.Report.{Report}
 use Rattle.l3_commit.specs.declared.report.EncodeFault.{EncodeFault}
 use Rattle.l3_commit.specs.Encoding.{encoding_of, gains_tried}
 use Rattle.l3_commit.specs.Standing.{CommitterView, StandsFor}
-use Rattle.l3_turns.specs.declared.encoding.TurnFault.{TurnFault}
-use Rattle.l3_turns.specs.declared.encoding.TurnFault.TheVariants.{Read, Write}
-use Rattle.l3_turns.specs.Answers as turns
+use Rattle.l3_encoder.specs.declared.encoding.TurnFault.{TurnFault}
+use Rattle.l3_encoder.specs.declared.encoding.TurnFault.TheVariants.{Read, Write}
+use Rattle.l3_encoder.specs.Answers as turns
 use Rattle.l3_encoder.specs.Changes.{SourceChange, SinkChange, source_change, sink_change}
 use Rattle.l3_encoder.specs.Encoded.{IsAccepted, settings_with, left_in, right_in, encoding_by, encoding_in, rest_by, rest_in, frame_number_by, gains_by, gains_in, IsReport, AreBytes, TakesFrontOf, TakesFront, HasReadSome, CountsReads, CountsWrites, ExplainsReport, GivesSomeFrames, IsBeforeFirst, LeavesInput}
 use Rattle.l3_encoder.specs.Opening.{IsOpened}

@@ -5,3 +5,5 @@ pub mod Encoded
 pub mod Opening
 pub mod Turned
 pub mod FileLaws
+pub mod Turning
+pub mod Answers

@@ -10,9 +10,9 @@ use Rattle.l3_commit.specs.declared.report.EncodeFault.TheVariants as fault
 use Rattle.l3_commit.specs.Encoding.{gains_tried}
 use Rattle.l3_commit.specs.Standing.{CommitterView, StandsFor}
 use Rattle.l3_commit.specs.Tracks.{first_track, next_of}
-use Rattle.l3_turns.specs.declared.encoding.TurnFault.{TurnFault}
-use Rattle.l3_turns.specs.declared.encoding.TurnFault.TheVariants.{Read, Write}
-use Rattle.l3_turns.specs.Answers.{CountsFaults, GivesFrames, GivesStream, IsReport}
+use Rattle.l3_encoder.specs.declared.encoding.TurnFault.{TurnFault}
+use Rattle.l3_encoder.specs.declared.encoding.TurnFault.TheVariants.{Read, Write}
+use Rattle.l3_encoder.specs.Answers.{CountsFaults, GivesFrames, GivesStream, IsReport}
 use Rattle.l3_encoder.specs.Changes.{SourceChange, SinkChange}
 
 -- the answer of a file's encoding, by that of its samples'

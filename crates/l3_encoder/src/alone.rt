@@ -3,11 +3,11 @@ ghost use Rattle.l3_encoder.specs.Changes.{source_change, sink_change};
 ghost use Rattle.l3_encoder.specs.Encoded.{CountsReads, CountsWrites, ExplainsReport, GivesSomeFrames, IsBeforeFirst, LeavesInput, gains_in};
 
 use crate::answer::answer_of;
+use crate::encoding::encode_turns;
 use crate::opening::{open_file, settings_of};
 use l3_base::{Rate, Steps};
 use l3_commit::{Committer, EncodeFault, Report};
 use l3_io::{Sink, Source};
-use l3_turns::encode_turns;
 use l3_wav::Samples;
 use std::alloc::Global;
 use std::sync::ledger::Ledger;

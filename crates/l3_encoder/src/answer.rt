@@ -1,8 +1,8 @@
 ghost use Rattle.std.specs.Prelude.{◌≡◌};
 ghost use Rattle.l3_encoder.specs.Turned.{answer_of};
 
+use crate::encoding::TurnFault;
 use l3_commit::{EncodeFault, Report};
-use l3_turns::TurnFault;
 
 /// The answer of a file's encoding, by that of its samples'.
 pub fn answer_of(turned: Result<Report, TurnFault>) -> Result<Report, EncodeFault>

@@ -5,18 +5,18 @@ ghost use Rattle.l3_wav.specs.ReadingOn.{AreGone};
 ghost use Rattle.l3_commit.specs.Encoding.{gains_tried};
 ghost use Rattle.l3_commit.specs.Standing.{StandsFor};
 ghost use Rattle.l3_commit.specs.Tracks.{first_track, next_of};
-ghost use Rattle.l3_turns.specs.Answers.{CountsFaults, GivesFrames, GivesStream, IsReport};
+ghost use Rattle.l3_encoder.specs.Answers.{CountsFaults, GivesFrames, GivesStream, IsReport};
 ghost use Rattle.l3_encoder.specs.Changes.{source_change, sink_change};
 ghost use Rattle.l3_encoder.specs.Turned.{CanTurnOver, IsTurnedOver};
 
-use l3_analysis::PieceBox;
+use crate::encoding::TurnFault;
+use crate::on_board::encode_on_board;
+use l3_analysis::{Gate, PieceBox, work_all};
 use l3_base::{Settings, Steps};
 use l3_board::Board;
 use l3_commit::{Committer, Report};
 use l3_guess::Guesser;
 use l3_io::{Sink, Source};
-use l3_turns::{TurnFault, encode_on_board};
-use l3_workers::{Gate, work_all};
 use std::sync::Wait;
 use std::sync::ledger::Ledger;
 use std::thread::{Threads, join_mut};
@@ -52,7 +52,7 @@ fn commit_all<S: Source, K: Sink, G: Guesser, B: Board<Item = PieceBox>, T: Gate
 /// board is shut at every answer, so that the workers end too. Errors are those of
 /// [`encode_turns`].
 ///
-/// [`encode_turns`]: l3_turns::encode_turns
+/// [`encode_turns`]: crate::encoding::encode_turns
 pub fn encode_over<
     S: Source,
     K: Sink,

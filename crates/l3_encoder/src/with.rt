@@ -7,14 +7,13 @@ ghost use Rattle.l3_encoder.specs.Encoded.{CountsReads, CountsWrites, ExplainsRe
 use crate::answer::answer_of;
 use crate::opening::{open_file, settings_of};
 use crate::over::encode_over;
-use l3_analysis::PieceBox;
+use l3_analysis::{Gate, Lanes, PieceBox};
 use l3_base::{Rate, Settings, Steps};
 use l3_commit::{Committer, EncodeFault, Report};
 use l3_guess::Guesser;
 use l3_io::{Sink, Source};
 use l3_lanes::{LaneBoard, LaneDesk, LaneSeat};
 use l3_wav::Samples;
-use l3_workers::{Gate, Lanes};
 use std::alloc::{AllocError, Global};
 use std::sync::Wait;
 use std::sync::ledger::Ledger;

@@ -3,7 +3,7 @@
 //!
 //! No clause can say that a call of the encoder returns on several threads, nor that the order of
 //! two threads' turns or a guess leaves every step of the board right: these are tests alone.
-//! Before: `l3_encoder`, which is tested here, and `l3_demo`, whose files it encodes.
+//! Before: `l3_encoder`, which is tested here, and `l3_wav`, whose files it encodes.
 #![tactic(auto)]
 
 #[cfg(test)]

@@ -3,10 +3,10 @@
 ghost use Rattle.std.specs.Prelude.{◌≡◌, ◌<◌, ◌≤◌};
 
 use l3_base::{Rate, Steps};
-use l3_demo::{DemoSource, demo_source};
 use l3_encoder::{EncodeFault, Gate, Lanes, OpenGate, Report, encode_alone, encode_with};
 use l3_guess::{Guesser, Last};
 use l3_io::{MemSink, Source};
+use l3_wav::{DemoSource, demo_source};
 use std::alloc::Global;
 use std::marker::Brand;
 use std::sync::Wait;

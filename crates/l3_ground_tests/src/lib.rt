@@ -2,8 +2,8 @@
 //! files, on worked cases.
 //!
 //! Tests alone: values worked out apart from this source, and objects that fail.
-//! Before: `l3_bits`, `l3_base`, `l3_tables`, `l3_huff`, `l3_io` and `l3_wav`, which are tested
-//! here. After: nothing.
+//! Before: `l3_bits`, `l3_base`, `l3_huff`, `l3_io` and `l3_wav`, which are tested here. After:
+//! nothing.
 #![tactic(auto)]
 
 #[cfg(test)]

@@ -1,6 +1,6 @@
 //! Entries of tables.
 
-use l3_tables::{ca, cs, edge, k64, k72, quarter, w};
+use l3_base::{ca, cs, edge, k64, k72, quarter, w};
 
 // Entries beyond the printed ones, worked out by hand from the printed table and its three rules.
 #[test]

@@ -2,14 +2,14 @@
 use Rattle.std.proofs.Common.{◌≡◌, ◌≢◌, ne_eqb, ℕ, zero, suc, ◌%◌, ◌==◌, Bool, true, false, true≢false, if◌then◌else◌, Some, List, [], ◌∷◌, ◌++◌, map, length, set, slice_get, replicate, refl, sym, ap, ◌∙◌, subst, length-set}
 use Rattle.std.proofs.lemmas.List.{set_comm}
 use native.Mathlib.Decide.{ℕ_discrete}
-use Rattle.l3_core.specs.declared.cell.Content.{Content}
-use Rattle.l3_core.specs.declared.cell.Content.TheVariants.{Empty, Offered, Claimed, Ready, Withdrawn}
-use Rattle.l3_core.specs.declared.event.Event.{Event}
-use Rattle.l3_core.specs.declared.event.Event.TheVariants as event
-use Rattle.l3_core.specs.declared.event.Answer.{Answer}
-use Rattle.l3_core.specs.declared.event.Answer.TheVariants as answer
-use Rattle.l3_core.specs.declared.event.Claim.TheVariants.{Job}
-use Rattle.l3_core.specs.Machine.{BoardState, Step, Run, cell_of, with_cell, fresh}
+use Rattle.l3_board.specs.declared.cell.Content.{Content}
+use Rattle.l3_board.specs.declared.cell.Content.TheVariants.{Empty, Offered, Claimed, Ready, Withdrawn}
+use Rattle.l3_board.specs.declared.event.Event.{Event}
+use Rattle.l3_board.specs.declared.event.Event.TheVariants as event
+use Rattle.l3_board.specs.declared.event.Answer.{Answer}
+use Rattle.l3_board.specs.declared.event.Answer.TheVariants as answer
+use Rattle.l3_board.specs.declared.event.Claim.TheVariants.{Job}
+use Rattle.l3_board.specs.Machine.{BoardState, Step, Run, cell_of, with_cell, fresh}
 use Rattle.l3_lanes.specs.declared.view.Move.{Move}
 use Rattle.l3_lanes.specs.History.{itself, opened, IsMove, offer_placed, claim_job, deposit_kept, deposit_late, take_got, take_revoked, take_in_work, board_shut, AreMoves, moves_of, is_shut, is_claim, before_shut, from_shut, claims_in, others_in, ClaimsFirst, in_order}
 use Rattle.l3_lanes.specs.HistoryLaws.{HistoryIsRun, RuleHasRun}

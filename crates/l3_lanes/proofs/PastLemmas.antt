@@ -8,18 +8,18 @@ use lib.ListN.{get_elem?}
 use prog.Atomic.{either}
 use Rattle.atomic_table.specs.Table.{State, Me}
 use Rattle.atomic_table.proofs.Lists.{at_map}
-use Rattle.l3_core.specs.declared.cell.Content.{Content}
-use Rattle.l3_core.specs.declared.cell.Content.TheVariants.{Empty, Offered, Claimed, Ready, Withdrawn}
-use Rattle.l3_core.specs.declared.event.Event.{Event}
-use Rattle.l3_core.specs.declared.event.Event.TheVariants as event
-use Rattle.l3_core.specs.declared.event.Answer.{Answer}
-use Rattle.l3_core.specs.declared.event.Answer.TheVariants as answer
-use Rattle.l3_core.specs.declared.event.Offer.TheVariants.{Placed, Busy}
-use Rattle.l3_core.specs.declared.event.Claim.TheVariants.{Job}
-use Rattle.l3_core.specs.declared.event.Deposit.TheVariants.{Kept, Late}
-use Rattle.l3_core.specs.declared.event.Take.TheVariants.{Got, Revoked, InWork}
-use Rattle.l3_core.specs.Machine.{BoardState, state_of, state_at, with_cell}
-use Rattle.l3_core.specs.declared.cell.Cell.TheVariants as state
+use Rattle.l3_board.specs.declared.cell.Content.{Content}
+use Rattle.l3_board.specs.declared.cell.Content.TheVariants.{Empty, Offered, Claimed, Ready, Withdrawn}
+use Rattle.l3_board.specs.declared.event.Event.{Event}
+use Rattle.l3_board.specs.declared.event.Event.TheVariants as event
+use Rattle.l3_board.specs.declared.event.Answer.{Answer}
+use Rattle.l3_board.specs.declared.event.Answer.TheVariants as answer
+use Rattle.l3_board.specs.declared.event.Offer.TheVariants.{Placed, Busy}
+use Rattle.l3_board.specs.declared.event.Claim.TheVariants.{Job}
+use Rattle.l3_board.specs.declared.event.Deposit.TheVariants.{Kept, Late}
+use Rattle.l3_board.specs.declared.event.Take.TheVariants.{Got, Revoked, InWork}
+use Rattle.l3_board.specs.Machine.{BoardState, state_of, state_at, with_cell}
+use Rattle.l3_board.specs.declared.cell.Cell.TheVariants as state
 use Rattle.std.specs.Option.{option_map}
 use Rattle.l3_lanes.specs.declared.view.View.{View}
 use Rattle.l3_lanes.specs.declared.view.Tell.{Tell}

@@ -1,9 +1,9 @@
 -- Moves before and after the shut.
 use Rattle.std.proofs.Common.{◌≡◌, ℕ, ◌+◌, ◌⊎◌, inl, inr, ⊎_elim, ◌==◌, Bool, true, false, true≢false, if◌then◌else◌, List, [], ◌∷◌, ◌++◌, length, refl, sym, ap, ◌∙◌, subst, arith, eq-eqb, ne_eqb}
 use Rattle.std.proofs.lemmas.List.{length-append}
-use Rattle.l3_core.specs.declared.event.Event.{Event}
-use Rattle.l3_core.specs.declared.event.Answer.{Answer}
-use Rattle.l3_core.specs.Machine.{BoardState}
+use Rattle.l3_board.specs.declared.event.Event.{Event}
+use Rattle.l3_board.specs.declared.event.Answer.{Answer}
+use Rattle.l3_board.specs.Machine.{BoardState}
 use Rattle.l3_lanes.specs.declared.view.Move.{Move}
 use Rattle.l3_lanes.specs.History.{IsMove, offer_placed, claim_job, deposit_kept, deposit_late, take_got, take_revoked, take_in_work, board_shut, AreMoves, IsHistory, moves_of, is_shut, is_claim, from_shut, claims_in, ClaimsFirst, BeginsWith}
 

@@ -6,14 +6,14 @@ use lib.ListN.{get_elem?}
 use prog.Atomic.{either}
 use Rattle.atomic_table.specs.Table.{Me, Allows, step, Splits, opening}
 use Rattle.atomic_table.proofs.Lists.{at_map, set_again}
-use Rattle.l3_core.specs.declared.cell.Content.TheVariants.{Empty}
-use Rattle.l3_core.specs.declared.event.Event.TheVariants as event
-use Rattle.l3_core.specs.declared.event.Answer.TheVariants as answer
-use Rattle.l3_core.specs.declared.event.Offer.TheVariants.{Placed, Busy}
-use Rattle.l3_core.specs.declared.event.Claim.TheVariants.{Job}
-use Rattle.l3_core.specs.declared.event.Deposit.TheVariants.{Kept, Late}
-use Rattle.l3_core.specs.declared.event.Take.TheVariants.{Got, Revoked, InWork}
-use Rattle.l3_core.specs.Machine.{BoardState, fresh}
+use Rattle.l3_board.specs.declared.cell.Content.TheVariants.{Empty}
+use Rattle.l3_board.specs.declared.event.Event.TheVariants as event
+use Rattle.l3_board.specs.declared.event.Answer.TheVariants as answer
+use Rattle.l3_board.specs.declared.event.Offer.TheVariants.{Placed, Busy}
+use Rattle.l3_board.specs.declared.event.Claim.TheVariants.{Job}
+use Rattle.l3_board.specs.declared.event.Deposit.TheVariants.{Kept, Late}
+use Rattle.l3_board.specs.declared.event.Take.TheVariants.{Got, Revoked, InWork}
+use Rattle.l3_board.specs.Machine.{BoardState, fresh}
 use Rattle.l3_lanes.specs.declared.view.View.{View}
 use Rattle.l3_lanes.specs.declared.view.Tell.{Tell}
 use Rattle.l3_lanes.specs.declared.view.Tell.TheVariants.{Free, Held, ToldReady, ToldClaimed}

@@ -1,16 +1,16 @@
 -- What the desk and the seats keep between calls, and what each call notes.
 use Rattle.std.specs.Prelude.{◌≡◌, ◌≢◌, ℕ, ◌+◌, ◌<◌, ◌≤◌, ◌%◌, ◌^◌, ◌⊎◌, Bool, true, false, List, [], ◌∷◌, ◌++◌, length, All, Option, Some, None, slice_index_or}
 use Rattle.atomic_table.specs.Table.{Me}
-use Rattle.l3_core.specs.declared.event.Event.TheVariants as event
-use Rattle.l3_core.specs.declared.event.Answer.TheVariants as answer
-use Rattle.l3_core.specs.declared.event.Offer.{Offer}
-use Rattle.l3_core.specs.declared.event.Offer.TheVariants.{Placed, Busy}
-use Rattle.l3_core.specs.declared.event.Claim.{Claim}
-use Rattle.l3_core.specs.declared.event.Claim.TheVariants.{Job, Nothing, Shut}
-use Rattle.l3_core.specs.declared.event.Deposit.{Deposit}
-use Rattle.l3_core.specs.declared.event.Deposit.TheVariants.{Kept, Late, Stray}
-use Rattle.l3_core.specs.declared.event.Take.{Take}
-use Rattle.l3_core.specs.declared.event.Take.TheVariants.{Got, Revoked, InWork, NotOffered}
+use Rattle.l3_board.specs.declared.event.Event.TheVariants as event
+use Rattle.l3_board.specs.declared.event.Answer.TheVariants as answer
+use Rattle.l3_board.specs.declared.event.Offer.{Offer}
+use Rattle.l3_board.specs.declared.event.Offer.TheVariants.{Placed, Busy}
+use Rattle.l3_board.specs.declared.event.Claim.{Claim}
+use Rattle.l3_board.specs.declared.event.Claim.TheVariants.{Job, Nothing, Shut}
+use Rattle.l3_board.specs.declared.event.Deposit.{Deposit}
+use Rattle.l3_board.specs.declared.event.Deposit.TheVariants.{Kept, Late, Stray}
+use Rattle.l3_board.specs.declared.event.Take.{Take}
+use Rattle.l3_board.specs.declared.event.Take.TheVariants.{Got, Revoked, InWork, NotOffered}
 use Rattle.l3_lanes.specs.declared.seats.LaneBoard.{LaneBoard}
 use Rattle.l3_lanes.specs.declared.seats.LaneDesk.{LaneDesk}
 use Rattle.l3_lanes.specs.declared.seats.LaneSeat.{LaneSeat}

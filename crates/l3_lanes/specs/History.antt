@@ -5,17 +5,17 @@ use Rattle.std.specs.Prelude.{◌≡◌, ◌==◌, ◌≤◌, ℕ, Bool, if◌th
 use mathlib.Core.Option.{some}
 use lib.ListN.{get_elem?}
 use Rattle.atomic_table.specs.Table.{State, Me}
-use Rattle.l3_core.specs.declared.cell.Content.{Content}
-use Rattle.l3_core.specs.declared.cell.Content.TheVariants.{Empty, Offered, Claimed, Ready, Withdrawn}
-use Rattle.l3_core.specs.declared.event.Event.{Event}
-use Rattle.l3_core.specs.declared.event.Event.TheVariants as event
-use Rattle.l3_core.specs.declared.event.Answer.{Answer}
-use Rattle.l3_core.specs.declared.event.Answer.TheVariants as answer
-use Rattle.l3_core.specs.declared.event.Offer.TheVariants.{Placed}
-use Rattle.l3_core.specs.declared.event.Claim.TheVariants.{Job}
-use Rattle.l3_core.specs.declared.event.Deposit.TheVariants.{Kept, Late}
-use Rattle.l3_core.specs.declared.event.Take.TheVariants.{Got, Revoked, InWork}
-use Rattle.l3_core.specs.Machine.{BoardState, Step, fresh}
+use Rattle.l3_board.specs.declared.cell.Content.{Content}
+use Rattle.l3_board.specs.declared.cell.Content.TheVariants.{Empty, Offered, Claimed, Ready, Withdrawn}
+use Rattle.l3_board.specs.declared.event.Event.{Event}
+use Rattle.l3_board.specs.declared.event.Event.TheVariants as event
+use Rattle.l3_board.specs.declared.event.Answer.{Answer}
+use Rattle.l3_board.specs.declared.event.Answer.TheVariants as answer
+use Rattle.l3_board.specs.declared.event.Offer.TheVariants.{Placed}
+use Rattle.l3_board.specs.declared.event.Claim.TheVariants.{Job}
+use Rattle.l3_board.specs.declared.event.Deposit.TheVariants.{Kept, Late}
+use Rattle.l3_board.specs.declared.event.Take.TheVariants.{Got, Revoked, InWork}
+use Rattle.l3_board.specs.Machine.{BoardState, Step, fresh}
 use Rattle.l3_lanes.specs.declared.view.View.{View}
 use Rattle.l3_lanes.specs.declared.view.Move.{Move}
 use Rattle.l3_lanes.specs.declared.view.Past.{Past}

@@ -3,7 +3,7 @@ use Rattle.std.specs.Prelude.{◌≡◌, ◌≤◌, ℕ, if◌then◌else◌, Li
 use mathlib.Core.Option.{some}
 use lib.ListN.{get_elem?}
 use Rattle.atomic_table.specs.Table.{State}
-use Rattle.l3_core.specs.Machine.{BoardState, Run, fresh}
+use Rattle.l3_board.specs.Machine.{BoardState, Run, fresh}
 use Rattle.l3_lanes.specs.declared.view.Move.{Move}
 use Rattle.l3_lanes.specs.declared.view.Knowledge.{Knowledge}
 use Rattle.l3_lanes.specs.History.{itself, shown, IsHistory, moves_of, in_order, HoldsRecorded}

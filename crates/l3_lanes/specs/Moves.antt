@@ -2,14 +2,14 @@
 -- others none.
 use Rattle.std.specs.Prelude.{◌≡◌, ◌==◌, ◌/◌, ◌%◌, ℕ, [], Some, MatchBool, slice_index_or}
 use Rattle.atomic_table.specs.Table.{Step, Me}
-use Rattle.l3_core.specs.declared.event.Event.{Event}
-use Rattle.l3_core.specs.declared.event.Event.TheVariants as event
-use Rattle.l3_core.specs.declared.event.Answer.{Answer}
-use Rattle.l3_core.specs.declared.event.Answer.TheVariants as answer
-use Rattle.l3_core.specs.declared.event.Offer.TheVariants.{Placed, Busy}
-use Rattle.l3_core.specs.declared.event.Claim.TheVariants.{Job}
-use Rattle.l3_core.specs.declared.event.Deposit.TheVariants.{Kept, Late}
-use Rattle.l3_core.specs.declared.event.Take.TheVariants.{Got, Revoked, InWork}
+use Rattle.l3_board.specs.declared.event.Event.{Event}
+use Rattle.l3_board.specs.declared.event.Event.TheVariants as event
+use Rattle.l3_board.specs.declared.event.Answer.{Answer}
+use Rattle.l3_board.specs.declared.event.Answer.TheVariants as answer
+use Rattle.l3_board.specs.declared.event.Offer.TheVariants.{Placed, Busy}
+use Rattle.l3_board.specs.declared.event.Claim.TheVariants.{Job}
+use Rattle.l3_board.specs.declared.event.Deposit.TheVariants.{Kept, Late}
+use Rattle.l3_board.specs.declared.event.Take.TheVariants.{Got, Revoked, InWork}
 use Rattle.l3_lanes.specs.declared.view.View.{View}
 use Rattle.l3_lanes.specs.declared.view.Tell.TheVariants.{Free}
 use Rattle.l3_lanes.specs.declared.view.Past.{Past}

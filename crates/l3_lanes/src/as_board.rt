@@ -1,10 +1,10 @@
 // The board without locks, by the calls that all boards have. Each has the clauses that all boards
 // have, and those that tie its answer to the words that were noted.
 ghost use Rattle.std.specs.Prelude.{◌≡◌, ◌≢◌, ℕ, List, ◌%◌, ◌<◌, ◌≤◌, ◌↔◌, [], ◌∷◌, None, Some, true};
-ghost use Rattle.l3_core.specs.declared.event.Offer.TheVariants.{Busy};
-ghost use Rattle.l3_core.specs.declared.event.Claim.TheVariants.{Job, Nothing, Shut};
-ghost use Rattle.l3_core.specs.declared.event.Deposit.TheVariants.{Stray};
-ghost use Rattle.l3_core.specs.declared.event.Take.TheVariants.{Got, Revoked, InWork, NotOffered};
+ghost use Rattle.l3_board.specs.declared.event.Offer.TheVariants.{Busy};
+ghost use Rattle.l3_board.specs.declared.event.Claim.TheVariants.{Job, Nothing, Shut};
+ghost use Rattle.l3_board.specs.declared.event.Deposit.TheVariants.{Stray};
+ghost use Rattle.l3_board.specs.declared.event.Take.TheVariants.{Got, Revoked, InWork, NotOffered};
 ghost use Rattle.l3_board.specs.Desk.{entry_of, last_after_offer, last_after_take, served_after, got_after};
 ghost use Rattle.l3_lanes.specs.Words.{offered_word, claimed_word};
 ghost use Rattle.l3_lanes.specs.Views.{Notes, words_at};
@@ -12,8 +12,7 @@ ghost use Rattle.l3_lanes.specs.Calls.{IsDeskOf, IsSeatOf, OfferNotes, TakeNotes
 
 use crate::seats::{LaneBoard, LaneDesk, LaneSeat};
 use l3_base::GranuleNo;
-use l3_board::Board;
-use l3_core::{Claim, Deposit, Numbered, Offer, Take};
+use l3_board::{Board, Claim, Deposit, Numbered, Offer, Take};
 use std::sync::Wait;
 
 impl<T: Numbered + Send> Board for LaneBoard<T> {

@@ -1,8 +1,8 @@
 ghost use Rattle.std.specs.Prelude.{◌≡◌, ◌≢◌, ℕ, List, Option, ◌+◌, ◌%◌, ◌<◌, ◌≤◌, ◌↔◌, [], ◌∷◌, None, Some, true, if◌then◌else◌, slice_set};
-ghost use Rattle.l3_core.specs.declared.event.Offer.TheVariants.{Busy};
-ghost use Rattle.l3_core.specs.declared.event.Claim.TheVariants.{Job, Nothing, Shut};
-ghost use Rattle.l3_core.specs.declared.event.Deposit.TheVariants.{Stray};
-ghost use Rattle.l3_core.specs.declared.event.Take.TheVariants.{Got, Revoked, InWork, NotOffered};
+ghost use Rattle.l3_board.specs.declared.event.Offer.TheVariants.{Busy};
+ghost use Rattle.l3_board.specs.declared.event.Claim.TheVariants.{Job, Nothing, Shut};
+ghost use Rattle.l3_board.specs.declared.event.Deposit.TheVariants.{Stray};
+ghost use Rattle.l3_board.specs.declared.event.Take.TheVariants.{Got, Revoked, InWork, NotOffered};
 ghost use Rattle.l3_board.specs.Desk.{entry_of, last_after_offer, last_after_take, served_after, got_after};
 ghost use Rattle.l3_lanes.specs.Words.{offered_word, claimed_word};
 ghost use Rattle.l3_lanes.specs.Views.{Notes, words_at};
@@ -13,7 +13,7 @@ use crate::seats::{LaneBoard, LaneDesk, LaneSeat};
 use crate::worker_calls::hand_in;
 use crate::worker_steps::load;
 use l3_base::GranuleNo;
-use l3_core::{Claim, Deposit, Numbered, Offer, Take};
+use l3_board::{Claim, Deposit, Numbered, Offer, Take};
 use std::sync::Wait;
 
 impl<T: Numbered> LaneBoard<T> {

@@ -1,8 +1,8 @@
 // How a worker's seat looks through the cells for a granule on offer.
 ghost use Rattle.std.specs.Prelude.{◌≡◌, ℕ, Option, ◌%◌, ◌<◌, ◌≤◌, None, Some, IfSome, IfNone};
-ghost use Rattle.l3_core.specs.declared.event.Event.TheVariants as event;
-ghost use Rattle.l3_core.specs.declared.event.Answer.TheVariants as answer;
-ghost use Rattle.l3_core.specs.declared.event.Claim.TheVariants.{Job};
+ghost use Rattle.l3_board.specs.declared.event.Event.TheVariants as event;
+ghost use Rattle.l3_board.specs.declared.event.Answer.TheVariants as answer;
+ghost use Rattle.l3_board.specs.declared.event.Claim.TheVariants.{Job};
 ghost use Rattle.l3_lanes.specs.History.{Extends, HasSeenOpen};
 ghost use Rattle.l3_lanes.specs.Views.{words_at};
 ghost use Rattle.l3_lanes.specs.Calls.{IsSeatOf, WasClaimed, WasLost, IsTried};
@@ -10,7 +10,7 @@ ghost use Rattle.l3_lanes.specs.Calls.{IsSeatOf, WasClaimed, WasLost, IsTried};
 use crate::seats::{LaneBoard, LaneSeat};
 use crate::worker_calls::claim_offered;
 use crate::worker_steps::load;
-use l3_core::Numbered;
+use l3_board::Numbered;
 
 impl<T: Numbered> LaneBoard<T> {
     // Tries one cell, by one load, and one exchange where it is on offer.

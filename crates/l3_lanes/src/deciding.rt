@@ -1,13 +1,13 @@
 // How the desk's calls decide.
 ghost use Rattle.std.specs.Prelude.{◌≡◌, ℕ, List, ◌%◌, ◌<◌, ◌≤◌, Some, None, slice_set};
-ghost use Rattle.l3_core.specs.declared.event.Offer.TheVariants.{Busy};
-ghost use Rattle.l3_core.specs.declared.event.Take.TheVariants.{Got, Revoked, InWork, NotOffered};
+ghost use Rattle.l3_board.specs.declared.event.Offer.TheVariants.{Busy};
+ghost use Rattle.l3_board.specs.declared.event.Take.TheVariants.{Got, Revoked, InWork, NotOffered};
 ghost use Rattle.l3_lanes.specs.Views.{Notes};
 ghost use Rattle.l3_lanes.specs.Calls.{IsDeskOf, OfferNotes, TakeNotes, OfferMoves, TakeMoves, desk_view, desk_past, granule_at, granule_offered, granule_taken};
 
 use crate::desk_calls::{fetch, place};
 use crate::seats::{LaneBoard, LaneDesk};
-use l3_core::{Numbered, Offer, Take};
+use l3_board::{Numbered, Offer, Take};
 
 impl<T: Numbered> LaneBoard<T> {
     // Offers the item, where the desk has not shut the board and the cell is empty.

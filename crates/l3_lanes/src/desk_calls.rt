@@ -2,10 +2,10 @@
 ghost use Rattle.std.specs.Prelude.{◌≡◌, ℕ, Option, ◌+◌, ◌%◌, ◌^◌, ◌<◌, [], ◌∷◌, None, Some, true, false, length, slice_index_or};
 ghost use mathlib.Core.Option.{some};
 ghost use lib.ListN.{get_elem?};
-ghost use Rattle.l3_core.specs.declared.event.Event.TheVariants as event;
-ghost use Rattle.l3_core.specs.declared.event.Answer.TheVariants as answer;
-ghost use Rattle.l3_core.specs.declared.event.Offer.TheVariants.{Busy};
-ghost use Rattle.l3_core.specs.declared.event.Take.TheVariants.{Got, Revoked, InWork, NotOffered};
+ghost use Rattle.l3_board.specs.declared.event.Event.TheVariants as event;
+ghost use Rattle.l3_board.specs.declared.event.Answer.TheVariants as answer;
+ghost use Rattle.l3_board.specs.declared.event.Offer.TheVariants.{Busy};
+ghost use Rattle.l3_board.specs.declared.event.Take.TheVariants.{Got, Revoked, InWork, NotOffered};
 ghost use Rattle.l3_lanes.specs.declared.view.Tell.{Tell};
 ghost use Rattle.l3_lanes.specs.declared.view.Tell.TheVariants.{Free, Held, ToldReady};
 ghost use Rattle.l3_lanes.specs.Words.{IsFull};
@@ -15,7 +15,7 @@ ghost use Rattle.l3_lanes.specs.Calls.{OfferNotes, TakeNotes, OfferMoves, TakeMo
 
 use crate::desk_steps::{give_back, look, put_offer, revoke, ring, take_ready, withdraw};
 use crate::plays::{Row, Token};
-use l3_core::{Numbered, Offer, Take};
+use l3_board::{Numbered, Offer, Take};
 
 // Offers the item where the cell is empty, and wakes those who wait.
 pub(crate) fn place<T: Numbered>(

@@ -3,10 +3,10 @@ ghost use Rattle.std.specs.Prelude.{◌≡◌, ◌==◌, ℕ, Option, ◌+◌, �
 ghost use Rattle.atomic_table.specs.Table.{step};
 ghost use mathlib.Core.Option.{none, some};
 ghost use lib.ListN.{get_elem?};
-ghost use Rattle.l3_core.specs.declared.event.Event.TheVariants as event;
-ghost use Rattle.l3_core.specs.declared.event.Answer.TheVariants as answer;
-ghost use Rattle.l3_core.specs.declared.event.Offer.TheVariants.{Placed, Busy};
-ghost use Rattle.l3_core.specs.declared.event.Take.TheVariants.{Got, Revoked, InWork};
+ghost use Rattle.l3_board.specs.declared.event.Event.TheVariants as event;
+ghost use Rattle.l3_board.specs.declared.event.Answer.TheVariants as answer;
+ghost use Rattle.l3_board.specs.declared.event.Offer.TheVariants.{Placed, Busy};
+ghost use Rattle.l3_board.specs.declared.event.Take.TheVariants.{Got, Revoked, InWork};
 ghost use Rattle.l3_lanes.specs.Words.{IsFull, HasNumber};
 ghost use Rattle.l3_lanes.specs.declared.view.Tell.TheVariants.{Held, ToldClaimed, ToldReady};
 ghost use Rattle.l3_lanes.specs.Views.{Knows};
@@ -16,7 +16,7 @@ ghost use Rattle.l3_lanes.specs.Steps.{Looks, Offers, Revokes, Withdraws, Takes,
 use crate::plays::{
     Looking, Offering, Returning, Revoking, Ringing, Row, Shutting, Taking, Token, Withdrawing,
 };
-use l3_core::Numbered;
+use l3_board::Numbered;
 
 // The desk's load of a cell, which takes the slot of an empty one.
 pub(crate) fn look<T: Numbered>(row: &Row<T>, seat: &mut Token<T>, cell: usize) -> u64

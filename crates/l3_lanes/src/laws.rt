@@ -1,7 +1,7 @@
 ghost use Rattle.l3_lanes.specs.Laws.{DeskKnows, CellWords, OneClaim, LostByCounts};
 ghost use Rattle.l3_lanes.specs.HistoryLaws.{HistoryIsRun, RuleHasRun};
 
-use l3_core::Numbered;
+use l3_board::Numbered;
 
 /// What the rule of the board without locks says of its cells, its desk and its claims.
 pub fn laws_of_the_rule<T: Numbered>()
@@ -11,7 +11,7 @@ pub fn laws_of_the_rule<T: Numbered>()
     ensures lost { LostByCounts }
 {}
 
-/// What the history of the board without locks is: a run of the board machine of `l3_core` over
+/// What the history of the board without locks is: a run of the board machine of `l3_board` over
 /// granules' numbers.
 pub fn laws_of_the_history<T: Numbered>()
     ensures run { HistoryIsRun }

@@ -3,8 +3,8 @@
 //!
 //! One word and one slot for each cell, a word for shut, and a bell that is raised for those who
 //! wait. Each call decides by single steps on one word. The board is this project's own.
-//! Before: `l3_core`, the same board as a machine over events, and `l3_board`, the trait. After:
-//! `l3_encoder`, whose committer and workers share it.
+//! Before: `l3_board`, the same board as a machine over events, and the trait. After: `l3_encoder`,
+//! whose committer and workers share it.
 #![tactic(auto)]
 
 mod as_board;

@@ -7,8 +7,7 @@ ghost use Rattle.l3_lanes.specs.Calls.{IsDeskOf, IsSeat, IsSeatOf, claimed, desk
 
 use crate::plays::{Hire, Lanes, Row, Token};
 use crate::seats::{LaneBoard, LaneDesk, LaneSeat};
-use l3_board::DeskRecord;
-use l3_core::Numbered;
+use l3_board::{DeskRecord, Numbered};
 use std::alloc::{AllocError, Global};
 
 impl<T: Numbered> LaneBoard<T> {

@@ -1,7 +1,7 @@
 // The rule of the board, and what each kind of step tells.
 use crate::view::Knowledge;
 use atomic_table::{Play, Seat, Shared, Split, Table, TableRule};
-use l3_core::Numbered;
+use l3_board::Numbered;
 use std::alloc::Global;
 use std::marker::PhantomData;
 

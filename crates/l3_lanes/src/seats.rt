@@ -2,8 +2,7 @@
 ghost use Rattle.std.specs.Prelude.{◌≡◌, ◌+◌, ◌<◌, ◌≤◌};
 
 use crate::plays::{Lanes, Token};
-use l3_board::DeskRecord;
-use l3_core::Numbered;
+use l3_board::{DeskRecord, Numbered};
 
 /// A board without locks, of 1 to 64 cells, for one desk and 1 to 16 workers' seats.
 ///
@@ -12,7 +11,7 @@ use l3_core::Numbered;
 /// `claim_wait` waits, and only `new` takes memory.
 ///
 /// The calls that change the board make one history of moves, which is a run of the board machine
-/// of `l3_core`.
+/// of `l3_board`.
 #[derive(Drop)]
 pub struct LaneBoard<T: Numbered> {
     pub(crate) lanes: Lanes<T>,

@@ -1,6 +1,6 @@
 // What a seat knows of the board. These types serve the clauses alone: no value of them is made
 // when the program runs.
-use l3_core::{Answer, Event};
+use l3_board::{Answer, Event};
 use std::collections::LinkedList;
 
 /// What the desk knows of a cell.

@@ -1,9 +1,9 @@
 // What a worker's seat does with one cell.
 ghost use Rattle.std.specs.Prelude.{◌≡◌, ◌≢◌, ℕ, Option, ◌+◌, ◌%◌, ◌^◌, ◌<◌, [], ◌∷◌, None, Some, true, false, length, IfSome, IfNone};
-ghost use Rattle.l3_core.specs.declared.event.Event.TheVariants as event;
-ghost use Rattle.l3_core.specs.declared.event.Answer.TheVariants as answer;
-ghost use Rattle.l3_core.specs.declared.event.Claim.TheVariants.{Job};
-ghost use Rattle.l3_core.specs.declared.event.Deposit.TheVariants.{Stray};
+ghost use Rattle.l3_board.specs.declared.event.Event.TheVariants as event;
+ghost use Rattle.l3_board.specs.declared.event.Answer.TheVariants as answer;
+ghost use Rattle.l3_board.specs.declared.event.Claim.TheVariants.{Job};
+ghost use Rattle.l3_board.specs.declared.event.Deposit.TheVariants.{Stray};
 ghost use Rattle.l3_lanes.specs.Words.{offered_word, claimed_word};
 ghost use Rattle.l3_lanes.specs.Views.{Notes};
 ghost use Rattle.l3_lanes.specs.History.{Extends, HasSeenOpen};
@@ -11,7 +11,7 @@ ghost use Rattle.l3_lanes.specs.Calls.{DepositNotes, DepositMoves};
 
 use crate::plays::{Row, Token};
 use crate::worker_steps::{claim, deposit, free};
-use l3_core::{Deposit, Numbered};
+use l3_board::{Deposit, Numbered};
 
 // Claims the granule that the cell's word was read to offer.
 pub(crate) fn claim_offered<T: Numbered>(

@@ -2,16 +2,16 @@
 ghost use Rattle.std.specs.Prelude.{◌≡◌, ◌==◌, ℕ, Option, ◌+◌, ◌*◌, ◌^◌, ◌<◌, ◌∷◌, None, Some, MatchBool, true, false};
 ghost use Rattle.atomic_table.specs.Table.{step};
 ghost use mathlib.Core.Option.{none};
-ghost use Rattle.l3_core.specs.declared.event.Event.TheVariants as event;
-ghost use Rattle.l3_core.specs.declared.event.Answer.TheVariants as answer;
-ghost use Rattle.l3_core.specs.declared.event.Claim.TheVariants.{Job};
-ghost use Rattle.l3_core.specs.declared.event.Deposit.TheVariants.{Kept, Late};
+ghost use Rattle.l3_board.specs.declared.event.Event.TheVariants as event;
+ghost use Rattle.l3_board.specs.declared.event.Answer.TheVariants as answer;
+ghost use Rattle.l3_board.specs.declared.event.Claim.TheVariants.{Job};
+ghost use Rattle.l3_board.specs.declared.event.Deposit.TheVariants.{Kept, Late};
 ghost use Rattle.l3_lanes.specs.Words.{IsFull, HasNumber};
 ghost use Rattle.l3_lanes.specs.History.{Extends, Sees, HasSeenOpen, bare};
 ghost use Rattle.l3_lanes.specs.Steps.{Loads, Claims, Deposits, Frees};
 
 use crate::plays::{Claiming, Depositing, Freeing, Loading, Row, Token};
-use l3_core::Numbered;
+use l3_board::Numbered;
 
 // A worker's load of any word.
 pub(crate) fn load<T: Numbered>(row: &Row<T>, seat: &mut Token<T>, word: usize) -> u64

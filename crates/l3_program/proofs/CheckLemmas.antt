@@ -7,8 +7,8 @@ use Rattle.l3_stream.specs.declared.fault.StreamFault.TheVariants as faults
 use Rattle.l3_stream.specs.declared.unit.ChosenFrame.{ChosenFrame}
 use Rattle.l3_stream.specs.Frames.{main_data_length}
 use Rattle.l3_stream.specs.Deviation.{deviation_of, fault_in}
-use Rattle.l3_reader.specs.InTurn.{Progress, BeginsWithFrame, GivesFrame, HasGiven, HasEnded, HasStopped, LeavesBehind, bytes_by, nothing_read, settings_by, still_read}
-use Rattle.l3_reader.proofs.InTurn.{given_none, given_more, given_ended, given_refused, given_stopped}
+use Rattle.l3_frames.specs.InTurn.{Progress, BeginsWithFrame, GivesFrame, HasGiven, HasEnded, HasStopped, LeavesBehind, bytes_by, nothing_read, settings_by, still_read}
+use Rattle.l3_frames.proofs.InTurn.{given_none, given_more, given_ended, given_refused, given_stopped}
 use Rattle.l3_program.specs.declared.check.Totals.{Totals}
 use Rattle.l3_program.specs.Check.{AddsUp, bits_of_frames, frames_limit, reading_in, deviation_in}
 

@@ -4,8 +4,8 @@ use Rattle.std.specs.Prelude.{IsSomeAnd, Option, Some, None, Result, Ok, Err}
 use Rattle.sha2.specs.Sha256.{sha256}
 use Rattle.l3_base.specs.declared.rate.Rate.{Rate}
 use Rattle.l3_commit.specs.declared.report.Report.{Report}
-use Rattle.l3_demo.specs.Demo.{demo_file}
-use Rattle.l3_demo.proofs.FileLemmas.{is_wav}
+use Rattle.l3_wav.specs.Demo.{demo_file}
+use Rattle.l3_wav.proofs.DemoFileLemmas.{is_wav}
 use Rattle.l3_encoder.specs.Encoded.{encoding_in, IsReport}
 use Rattle.l3_io.specs.Taken.{Takes, length_of}
 use Rattle.l3_wav.specs.declared.head.WavHead.{WavHead}

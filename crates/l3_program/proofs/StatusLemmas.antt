@@ -15,7 +15,7 @@ use Rattle.l3_words.specs.declared.command.DemoWords.{DemoWords}
 use Rattle.l3_words.specs.declared.command.EncodeWords.{EncodeWords}
 use Rattle.l3_encoder.specs.Changes.{SourceChange, SinkChange}
 use Rattle.l3_encoder.specs.Encoded.{encoding_in, rest_in, TakesFrontOf}
-use Rattle.l3_reader.specs.InTurn.{HasStopped}
+use Rattle.l3_frames.specs.InTurn.{HasStopped}
 use Rattle.l3_stream.specs.declared.fault.StreamFault.{StreamFault}
 use Rattle.l3_stream.specs.Deviation.{Content, deviation_of, fault_in}
 use Rattle.l3_program.specs.declared.status.Status.{Status}

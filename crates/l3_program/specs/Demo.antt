@@ -3,7 +3,7 @@ use Rattle.std.specs.Prelude.{◌≡◌, ℕ, List, [], ◌∷◌, ◌++◌, cod
 use Rattle.hex.specs.Hex.{encode_lower}
 use Rattle.sha2.specs.Sha256.{sha256}
 use Rattle.l3_base.specs.declared.rate.Rate.{Rate}
-use Rattle.l3_demo.specs.Demo.{demo_file}
+use Rattle.l3_wav.specs.Demo.{demo_file}
 use Rattle.l3_encoder.specs.Encoded.{encoding_in, frame_number_in}
 use Rattle.l3_io.specs.Taken.{length_of}
 use Rattle.l3_words.specs.declared.command.DemoWords.{DemoWords}

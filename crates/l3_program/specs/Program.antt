@@ -9,7 +9,7 @@ use Rattle.l3_commit.specs.declared.report.Report.{Report}
 use Rattle.l3_commit.specs.declared.report.EncodeFault.{EncodeFault}
 use Rattle.l3_commit.specs.declared.report.EncodeFault.TheVariants as encode_fault
 use Rattle.l3_encoder.specs.Encoded.{encoding_in, rest_in, IsAccepted, IsReport, HasReadSome, TakesFront, TakesFrontOf}
-use Rattle.l3_reader.specs.InTurn.{HasStopped}
+use Rattle.l3_frames.specs.InTurn.{HasStopped}
 use Rattle.l3_stream.specs.declared.fault.StreamFault.TheVariants as stream
 use Rattle.l3_stream.specs.declared.unit.ChosenFrame.{ChosenFrame}
 use Rattle.l3_stream.specs.Tape.{FramesFit, stream_of}

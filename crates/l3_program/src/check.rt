@@ -3,7 +3,7 @@
 ghost use Rattle.std.specs.Prelude.{◌≡◌, ◌≢◌, ◌≤◌, ◌*◌, ◌^◌, Err, IfErr, IfOk, IfSome, OnOk, Some, []};
 ghost use Rattle.l3_encoder.specs.Changes.{sink_change, source_change};
 ghost use Rattle.l3_io.specs.Causes.{count_after};
-ghost use Rattle.l3_reader.specs.InTurn.{HasStopped};
+ghost use Rattle.l3_frames.specs.InTurn.{HasStopped};
 ghost use Rattle.l3_program.specs.Check.{AddsUp, deviation_in, frames_limit, line_with};
 ghost use Rattle.l3_program.specs.Program.{Ends, any_number};
 ghost use Rattle.l3_program.specs.declared.words.Command.TheVariants as command;
@@ -11,8 +11,8 @@ ghost use Rattle.l3_program.specs.declared.words.Command.TheVariants as command;
 use crate::ending::Ending;
 use arrayvec::ArrayString;
 use itoa::Buffer;
+use l3_frames::{FrameReader, StreamFault};
 use l3_io::{Sink, Source, write_all};
-use l3_reader::{FrameReader, StreamFault};
 
 // The most frames that a stream may have: the most that can be read, nine times those of the
 // longest WAV file.

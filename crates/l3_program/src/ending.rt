@@ -7,8 +7,8 @@ use crate::status::Status;
 use arrayvec::ArrayString;
 use itoa::Buffer;
 use l3_encoder::Report;
+use l3_frames::StreamFault;
 use l3_io::{Sink, write_all};
-use l3_reader::StreamFault;
 use l3_wav::WavFault;
 
 /// How a run of the program ended, with the fault for which the input was refused.

@@ -1,7 +1,7 @@
 //! WAV at a source -> MP3 at a sink, or an MP3 stream -> whether and how far it can be read, or a
 //! number -> the digest of a stream; how it ended -> notes and the exit status.
 //!
-//! Before: `l3_words`, `l3_encoder`, `l3_reader`, `l3_demo`. After: `mp3enc`, which hands in the
+//! Before: `l3_words`, `l3_encoder`, `l3_frames`, `l3_wav`. After: `mp3enc`, which hands in the
 //! arguments and the standard streams of its process.
 #![tactic(auto)]
 

@@ -188,7 +188,7 @@ pub fn run_alone<S: Source, K: Sink, N: Sink>(
 /// words, 128 kbit/s where they name none; with `--stats` it tells notes how many gains were tried.
 /// `check` reads a stream of at most 16777216 frames whole, in memory that does not grow, and then
 /// writes one line, `frames F bits B`: how many frames there are, and the sum of their units'
-/// part2_3_length. `demo` reads nothing: it encodes the signal of `l3_demo` at the rate of the words,
+/// part2_3_length. `demo` reads nothing: it encodes the signal of `l3_wav` at the rate of the words,
 /// and then writes one line, `frames F bytes B sha256 D`: how many frames and bytes its stream has,
 /// and its digest. Where the input is refused or there is no memory nothing is written; where a
 /// read or a write failed a front of the stream may be.

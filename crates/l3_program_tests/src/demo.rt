@@ -1,5 +1,5 @@
-use l3_demo::demo_source;
 use l3_io::read_full;
+use l3_wav::demo_source;
 
 #[test]
 fn first_demo_samples(rt: HostRuntime) {

@@ -3,8 +3,7 @@
 //!
 //! What no clause says, or says in words that could all be wrong together: the bytes, counts and
 //! answers that were found outside the program, and that a call succeeds. These are tests alone.
-//! Before: `l3_wav`, `l3_commit`, `l3_turns`, `l3_encoder`, `l3_words` and `l3_demo`, which are
-//! tested here. After: nothing.
+//! Before: `l3_wav`, `l3_commit`, `l3_encoder` and `l3_words`, which are tested here. After: nothing.
 #![tactic(auto)]
 
 #[cfg(test)]

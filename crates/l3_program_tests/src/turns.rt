@@ -5,15 +5,14 @@ ghost use Rattle.l3_commit.specs.Tracks.{first_track};
 ghost use Rattle.l3_board.specs.Offers.{no_offers};
 
 use crate::boards::lock_board;
-use l3_analysis::PieceBox;
+use l3_analysis::{OpenGate, PieceBox};
 use l3_base::{Channels, Rate, SampleRate, Settings, Steps};
 use l3_board::{LockBoard, LockDesk, LockSeat, fresh_desks};
 use l3_commit::{Committer, Report};
+use l3_encoder::{TurnFault, encode_on_board, encode_turns};
 use l3_guess::Flat;
 use l3_io::{MemSink, MemSource, read_full};
-use l3_turns::{TurnFault, encode_on_board, encode_turns};
 use l3_wav::{Samples, WavHead};
-use l3_workers::OpenGate;
 use std::alloc::Global;
 use std::marker::Brand;
 use std::sync::Wait;

@@ -10,8 +10,8 @@ use Rattle.l3_base.specs.Amp.{IsAmp, no_amp}
 use Rattle.l3_base.specs.Choosing.{IsLeastPassing}
 use Rattle.l3_base.specs.Spectrum.{IsLine}
 use Rattle.l3_base.proofs.ChoosingLemmas.{least_passing-is, least_passing-least}
-use Rattle.l3_tables.specs.Bands.{edge_at, edges_at}
-use Rattle.l3_tables.proofs.Edges.{edge_first, edge_last, edge_order}
+use Rattle.l3_base.specs.Bands.{edge_at, edges_at}
+use Rattle.l3_base.proofs.Edges.{edge_first, edge_last, edge_order}
 use Rattle.l3_quant.specs.Quantiser.{magnitude, quantised, quantised_lines, steps_of, is_codable}
 use Rattle.l3_quant.specs.Amplified.{band_gain, band_of, quantised_bands}
 use Rattle.l3_quant.specs.Gains.{CodableAbove, FirstGainExists, OneGainWithoutAmp, ZerosAtTheTop, first_gain_of}

@@ -5,7 +5,7 @@ use Rattle.std.proofs.lemmas.Bool.{and_parts, cases_lt, leb-true, le-leb, ltb-tr
 use Rattle.std.proofs.lemmas.Nat.{pow_pos}
 use Rattle.l3_base.proofs.ChoosingLemmas.{greatest_passing-greatest}
 use Rattle.l3_quant.specs.declared.four_thirds_table.TheConstants.{POWERS}
-use Rattle.l3_tables.specs.Steps.{quarter_at}
+use Rattle.l3_base.specs.Steps.{quarter_at}
 use Rattle.l3_quant.specs.Quantiser.{steps_of}
 use Rattle.l3_quant.specs.Reconstruction.{FourThirdsIsGreatest, four_thirds_of, reconstructed}
 use Rattle.l3_quant.proofs.Powers.{cube_is, fourth_is}

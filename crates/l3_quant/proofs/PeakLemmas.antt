@@ -11,10 +11,10 @@ use Rattle.std.proofs.Common.{take-append-drop}
 use Rattle.l3_base.specs.declared.rate.SampleRate.{SampleRate}
 use Rattle.l3_base.specs.Amp.{no_amp}
 use Rattle.l3_base.specs.Rates.{hertz_index_of}
-use Rattle.l3_tables.specs.Bands.{edge_at, band_edges}
-use Rattle.l3_tables.specs.Peaks.{IsPeak}
-use Rattle.l3_tables.proofs.Edges.{edge_first, edge_last, edge_rises, index_small}
-use Rattle.l3_tables.proofs.ListLemmas.{filled_more}
+use Rattle.l3_base.specs.Bands.{edge_at, band_edges}
+use Rattle.l3_base.specs.Peaks.{IsPeak}
+use Rattle.l3_base.proofs.Edges.{edge_first, edge_last, edge_rises, index_small}
+use Rattle.l3_base.proofs.ListLemmas.{filled_more}
 use Rattle.l3_quant.specs.Quantiser.{is_codable, magnitude, magnitude_at, quantised_lines, steps_of}
 use Rattle.l3_quant.specs.Amplified.{band_gain, quantised_bands}
 use Rattle.l3_quant.specs.Gains.{first_gain_of}

@@ -5,7 +5,7 @@ use Rattle.std.proofs.Math.Pow.{shr_mono}
 use Rattle.std.proofs.lemmas.Nat.{pow-add, shl-shr}
 use Rattle.std.proofs.lemmas.Bool.{agree_below_at, ltb-true, cases_lt}
 use Rattle.std.specs.Prelude.{unsigned_abs}
-use Rattle.l3_tables.specs.Steps.{quarter_at}
+use Rattle.l3_base.specs.Steps.{quarter_at}
 use Rattle.l3_quant.specs.Quantiser.{scaled}
 
 -- what r quarter steps multiply by

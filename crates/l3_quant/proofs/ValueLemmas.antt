@@ -1,7 +1,7 @@
 -- From the values of scaled lines to those of a spectrum.
 use Rattle.std.proofs.Common.{◌≡◌, ℕ, ◌+◌, ◌<◌, ◌≤◌, ◌^◌, List, length, get_or, min, arith, ℤ, pos}
 use Rattle.std.specs.Prelude.{Any, unsigned_abs}
-use Rattle.l3_tables.specs.Bands.{edge_at, edges_at}
+use Rattle.l3_base.specs.Bands.{edge_at, edges_at}
 use Rattle.l3_quant.specs.Quantiser.{magnitude, quantised_lines, scaled, steps_of}
 use Rattle.l3_quant.specs.Amplified.{band_gain, band_of, quantised_bands}
 use Rattle.l3_quant.specs.Values.{AreScaled, AreValues, IsAboveAt}

@@ -1,6 +1,6 @@
 pub use Rattle.l3_base.specs.Spectrum
 pub use Rattle.l3_base.specs.Amp
-pub use Rattle.l3_tables.specs.Peaks
+pub use Rattle.l3_base.specs.Peaks
 pub mod Quantiser
 pub mod Amplified
 pub mod Gains

@@ -2,7 +2,7 @@
 use Rattle.std.specs.Prelude.{◌≡◌, ◌⊎◌, ℕ, ◌+◌, ◌-◌, ◌*◌, ◌/◌, ◌%◌, ◌^◌, ◌≤◌, Bool, ◌==◌, ◌||◌, nat_le, List, map, All, ℤ, pos, negsuc, ◌-ℤ◌, unsigned_abs}
 use Rattle.std.specs.List.{list_all}
 use Rattle.l3_base.specs.Choosing.{greatest_passing}
-use Rattle.l3_tables.specs.Steps.{quarter_at}
+use Rattle.l3_base.specs.Steps.{quarter_at}
 
 -- quarter steps from a gain up to 258, which for a gain of at most 258 is a number: 210, where the
 -- step is that of the lines' own unit, and 48 more, which are 12 doublings

@@ -2,7 +2,7 @@
 -- whole numbers; the roundings are this project's own.
 use Rattle.std.specs.Prelude.{ℕ, ◌+◌, ◌*◌, ◌/◌, ◌%◌, ◌^◌, ◌≤◌, nat_le, ℤ, unsigned_abs}
 use Rattle.l3_base.specs.Choosing.{greatest_passing}
-use Rattle.l3_tables.specs.Steps.{quarter_at}
+use Rattle.l3_base.specs.Steps.{quarter_at}
 use Rattle.l3_quant.specs.Quantiser.{steps_of}
 
 -- n to the power 4/3 in units of 2^-12, rounded down: the greatest v with v^3 <= n^4 * 2^36

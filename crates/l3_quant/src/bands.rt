@@ -1,13 +1,12 @@
 ghost use Rattle.std.specs.Prelude.{◌≡◌, ◌<◌, ◌≤◌, ◌+◌, ◌*◌, ◌^◌, ℕ, All, slice_index, slice_index_or, min, pos, unsigned_abs};
 ghost use Rattle.l3_base.specs.Amp.{IsAmp};
 ghost use Rattle.l3_base.specs.Spectrum.{IsLine};
-ghost use Rattle.l3_tables.specs.Bands.{edge_at};
+ghost use Rattle.l3_base.specs.Bands.{edge_at};
 ghost use Rattle.l3_quant.specs.Quantiser.{scaled, steps_of};
 ghost use Rattle.l3_quant.specs.Amplified.{band_gain};
 
 use crate::scale::{scaled_line, steps};
-use l3_base::Amp;
-use l3_tables::edge;
+use l3_base::{Amp, edge};
 
 // How many quarter steps finer a band is quantised: two for each of its amplification. The last
 // band has none.

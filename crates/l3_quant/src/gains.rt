@@ -1,7 +1,7 @@
 ghost use Rattle.std.specs.Prelude.{◌≡◌, ℕ, ◌<◌, ◌≤◌, ◌+◌, ◌-◌, ◌^◌, ℤ, List, All, Any, pos, unsigned_abs};
 ghost use Rattle.l3_base.specs.declared.rate.SampleRate.{SampleRate};
 ghost use Rattle.l3_base.specs.Amp.{no_amp};
-ghost use Rattle.l3_tables.specs.Bands.{band_edges};
+ghost use Rattle.l3_base.specs.Bands.{band_edges};
 ghost use Rattle.l3_quant.specs.Quantiser.{magnitude_at, magnitude, quantised_lines, IsCodable};
 ghost use Rattle.l3_quant.specs.Amplified.{quantised_bands};
 ghost use Rattle.l3_quant.specs.Gains.{first_gain_of};

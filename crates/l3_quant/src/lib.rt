@@ -3,7 +3,7 @@
 //! The spectrum of one channel of one granule -> its quantised values at a `global_gain`, which for
 //! each amplified band is lowered, its greatest line of each band, and the least gain at which all
 //! can be coded; and a quantised value -> the line that it stands for.
-//! Before: `l3_mdct`, the spectrum. After: `l3_planes`, which has the values at all gains. The
+//! Before: `l3_transform`, the spectrum. After: `l3_count`, which has the values at all gains. The
 //! power law is that of Layer III (ISO/IEC 11172-3, 2.4, the requantisation turned round); the
 //! whole-number form and the rounding constant 13/32 are this project's own.
 #![tactic(auto)]

@@ -1,12 +1,11 @@
 ghost use Rattle.std.specs.Prelude.{ℕ, ℤ, List, ◌≡◌, ◌<◌, ◌≤◌, ◌≤ℤ◌, ◌+◌, ◌^◌, pos, negsuc, unsigned_abs, nat_le, replicate, slice_range, All, Any};
 ghost use Rattle.std.specs.List.{list_all};
 ghost use Rattle.l3_base.specs.Spectrum.{IsLine};
-ghost use Rattle.l3_tables.specs.Bands.{edge_at, band_edges};
-ghost use Rattle.l3_tables.specs.Peaks.{IsPeak};
+ghost use Rattle.l3_base.specs.Bands.{edge_at, band_edges};
+ghost use Rattle.l3_base.specs.Peaks.{IsPeak};
 ghost use Rattle.l3_quant.specs.Magnitudes.{AreLinePeaks};
 
-use l3_base::{SampleRate, Spectrum};
-use l3_tables::edge;
+use l3_base::{SampleRate, Spectrum, edge};
 
 // The greatest absolute value.
 #[inline(always)]

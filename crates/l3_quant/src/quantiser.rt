@@ -1,7 +1,7 @@
 ghost use Rattle.std.specs.Prelude.{◌≡◌, ◌<◌, ◌≤◌, ◌^◌, ◌≤ℤ◌, ℕ, pos, negsuc, unsigned_abs, replicate, min, All, Any, IfSome, IfNone};
 ghost use Rattle.std.specs.Bool.{OnTrue, OnFalse};
 ghost use Rattle.l3_base.specs.Spectrum.{IsLine};
-ghost use Rattle.l3_tables.specs.Bands.{band_edges};
+ghost use Rattle.l3_base.specs.Bands.{band_edges};
 ghost use Rattle.l3_quant.specs.Quantiser.{magnitude_at, magnitude, with_sign_of, quantised_lines, IsCodable};
 ghost use Rattle.l3_quant.specs.Amplified.{quantised_bands};
 ghost use Rattle.l3_quant.specs.Values.{AreScaled, AreValues, IsAboveAt};

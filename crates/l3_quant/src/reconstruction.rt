@@ -3,7 +3,7 @@ ghost use Rattle.l3_quant.specs.Reconstruction.{reconstructed};
 
 use crate::four_thirds_table::four_thirds;
 use crate::scale::steps;
-use l3_tables::quarter;
+use l3_base::quarter;
 
 /// The absolute value of the line that a quantised value stands for, in units of 2^-24 of full
 /// scale.

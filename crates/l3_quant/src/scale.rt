@@ -2,7 +2,7 @@ ghost use Rattle.std.specs.Prelude.{ℕ, All, unsigned_abs, slice_index, slice_i
 ghost use Rattle.l3_base.specs.Spectrum.{IsLine};
 ghost use Rattle.l3_quant.specs.Quantiser.{scaled, steps_of};
 
-use l3_tables::quarter;
+use l3_base::quarter;
 
 // Where scaled lines are cut: 8192 is reached long before.
 const CUT: u64 = 1 << 30;

@@ -4,7 +4,7 @@ use Rattle.std.proofs.Common.{◌≡◌, ◌<◌, ◌+◌, ◌&&◌, ◌∙◌, 
 use Rattle.std.specs.List.{list_all}
 use Rattle.std.proofs.lemmas.Bool.Decides.{nat_tests}
 use Rattle.std.proofs.lemmas.List.Folds.{list_all_more}
-use Rattle.l3_tables.specs.Peaks.{IsPeak}
+use Rattle.l3_base.specs.Peaks.{IsPeak}
 
 -- both are at most n where the greater one is
 both_at_most : (a b n : ℕ) → (nat_le a n && nat_le b n) ≡ nat_le (max a b) n

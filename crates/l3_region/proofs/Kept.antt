@@ -2,11 +2,11 @@
 use Rattle.std.proofs.Common.{◌≡◌, ◌≢◌, ℕ, zero, suc, ◌+◌, ◌-◌, ◌*◌, ◌/◌, ◌<◌, ◌≤◌, List, [], length, get_or, refl, sym, ap, ◌∙◌, arith, inl, inr, add-one, mul-add}
 use Rattle.std.specs.Prelude.{ℤ, min}
 use Rattle.std.proofs.lemmas.Bool.{cases_lt, le-leb, lt-leb}
-use Rattle.l3_tables.specs.Lists.{entry}
-use Rattle.l3_tables.proofs.ListLemmas.{get_or-tabulate}
-use Rattle.l3_tables.specs.Bands.{edge_at}
+use Rattle.l3_base.specs.Lists.{entry}
+use Rattle.l3_base.proofs.ListLemmas.{get_or-tabulate}
+use Rattle.l3_base.specs.Bands.{edge_at}
 use Rattle.l3_region.specs.Lanes.{AreKept, cell_at, extra_of, lane_class, lane_of, lane_sum, pairs_at, place_of, row_at, rows_of, short_at, short_sum, sum_at}
-use Rattle.l3_tables.proofs.Edges.{edge_order}
+use Rattle.l3_base.proofs.Edges.{edge_order}
 use Rattle.l3_region.proofs.LaneLemmas.{lane_sum-le, lane_sum-more, lane_sum-none, place_small}
 use Rattle.l3_region.proofs.Tables.{short_small}
 

@@ -2,7 +2,7 @@
 use Rattle.std.proofs.Common.{◌≡◌, ℕ, zero, suc, ◌+◌, ◌-◌, ◌*◌, ◌<◌, ◌≤◌, List, get_or, cond, leb, true, refl, ap, ◌∙◌, arith, inl, inr, add-one}
 use Rattle.std.specs.Prelude.{ℤ, min, max}
 use Rattle.std.proofs.lemmas.Bool.{cases_lt, le-leb, lt-ltb, le-ltb}
-use Rattle.l3_tables.specs.Lists.{entry}
+use Rattle.l3_base.specs.Lists.{entry}
 use Rattle.l3_region.specs.Lanes.{IsFirstLane, LinbitsGrow, lane_class, mask_at, least_below, class_from, lane_cost, lane_sum, row_at, place_of}
 use Rattle.l3_region.proofs.Tables.{mask_is, mask_linbits, mask_none, row_rises, row_small, row_zero}
 

@@ -3,8 +3,8 @@ use Rattle.std.proofs.Common.{◌≡◌, ◌≢◌, ℕ, zero, suc, ◌+◌, ◌
 use Rattle.std.specs.Prelude.{ℤ, min}
 use Rattle.std.proofs.lemmas.Bool.{cases_lt}
 use Rattle.std.proofs.lemmas.List.{get_or-replicate, get_or_past}
-use Rattle.l3_tables.specs.Bands.{edge_at}
-use Rattle.l3_tables.proofs.Edges.{edge_order}
+use Rattle.l3_base.specs.Bands.{edge_at}
+use Rattle.l3_base.proofs.Edges.{edge_order}
 use Rattle.l3_region.specs.Lanes.{AreKept, AreLaneSums, AreLongSums, AreSums, LinbitsGrow, NeedLinbits, cell_at, class_from, extra_of, lane_class, lane_sum, pairs_at, rows_of, short_sum, sum_at}
 use Rattle.l3_region.proofs.Kept.{kept_from, lane_of-long, lane_of-short, lane_sum-is, long_small, rows_from, short_rises, short_sum-le, sum_at-is}
 use Rattle.l3_region.proofs.LaneLemmas.{class_from-front, class_from-lt, lane_sum-le, lane_sum-linbits, lane_sum-rises, lane_sum-zero}

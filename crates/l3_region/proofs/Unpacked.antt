@@ -6,7 +6,7 @@ use Rattle.std.proofs.Math.ListN.{get_or-map}
 use Rattle.std.proofs.lemmas.Bool.{cases_eq, cases_lt, le-leb, lt-leb, ne_eqb}
 use Rattle.std.proofs.lemmas.Grind.{same_number_lists}
 use Rattle.std.proofs.lemmas.List.{length-map}
-use Rattle.l3_tables.specs.Lists.{entry}
+use Rattle.l3_base.specs.Lists.{entry}
 use Rattle.l3_region.specs.Lanes.{place_of}
 use Rattle.l3_region.specs.Pairs.{ArePairsOf, lines_in, unpacked}
 use Rattle.l3_region.proofs.CutLines.{cut_value, place_read}

@@ -1,8 +1,8 @@
 -- The code tables side by side, a lane each, and sums over them. Other crates speak of places of
 -- pairs and of classes of values alone.
 use Rattle.std.specs.Prelude.{◌≡◌, ◌≢◌, ◌<◌, ◌≤◌, ◌+◌, ◌-◌, ◌*◌, ◌/◌, ◌%◌, ◌^◌, ℕ, zero, suc, nat_le, Bool, true, false, if◌then◌else◌, ◌⊎◌, List, [], max, min, slice_index, slice_index_or, ℤ, unsigned_abs, All, length, slice_range}
-use Rattle.l3_tables.specs.Lists.{entry, tabulate}
-use Rattle.l3_tables.specs.Bands.{edge_at}
+use Rattle.l3_base.specs.Lists.{entry, tabulate}
+use Rattle.l3_base.specs.Bands.{edge_at}
 use Rattle.l3_region.specs.Regions.{holds_all}
 use Rattle.l3_region.specs.declared.lanes.TheConstants.{TABLES, CLASSES, BOUNDS}
 use Rattle.l3_region.specs.declared.rows.TheConstants.{ROWS}

@@ -1,8 +1,8 @@
 -- The pairs of a unit's values, packed, and the classes of its bands: all that the choice of
 -- regions needs to know of 576 quantised values.
 use Rattle.std.specs.Prelude.{◌≡◌, ◌≤◌, ◌<◌, ◌+◌, ◌*◌, ◌/◌, ◌%◌, ℕ, List, [], ◌∷◌, length, min, slice_index, slice_range, ℤ, unsigned_abs, All}
-use Rattle.l3_tables.specs.Lists.{entry}
-use Rattle.l3_tables.specs.Bands.{edge_at, edges_at}
+use Rattle.l3_base.specs.Lists.{entry}
+use Rattle.l3_base.specs.Bands.{edge_at, edges_at}
 use Rattle.l3_region.specs.Cut.{as_lines}
 use Rattle.l3_region.specs.Lanes.{IsClass, place_of}
 

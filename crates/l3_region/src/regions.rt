@@ -1,5 +1,5 @@
 ghost use Rattle.std.specs.Prelude.{◌≡◌, ℤ, List, ◌≤◌, ◌<◌, ◌+◌, ◌*◌, ℕ, All, length, replicate, slice_index, unsigned_abs};
-ghost use Rattle.l3_tables.specs.Bands.{band_edges};
+ghost use Rattle.l3_base.specs.Bands.{band_edges};
 ghost use Rattle.l3_region.specs.Split.{split_of};
 ghost use Rattle.l3_region.specs.Pairs.{ArePairsOf};
 ghost use Rattle.l3_region.specs.Regions.{regions_of};

@@ -4,7 +4,7 @@
 ghost use Rattle.std.specs.Prelude.{◌≡◌, ◌≢◌, ◌<◌, ◌≤◌, ◌+◌, ◌*◌, ◌/◌, ◌%◌, ◌^◌, ℕ, ℤ, List, All, false, length, min, nat_le, replicate, slice_index, slice_index_or, slice_range, []};
 ghost use Rattle.std.specs.Bool.{OnTrue};
 ghost use Rattle.std.specs.List.{list_all};
-ghost use Rattle.l3_tables.specs.Bands.{edge_at, edges_at};
+ghost use Rattle.l3_base.specs.Bands.{edge_at, edges_at};
 ghost use Rattle.l3_region.specs.Split.{end_of_pairs};
 ghost use Rattle.l3_region.specs.Lanes.{AreAllSums, AreKept, AreLaneSums, AreLongSums, AreSums, AreSumsOf, NeedLinbits, cell_at, rows_of, short_sum};
 ghost use Rattle.l3_region.specs.Pairs.{ArePairsOf, IsBandClass, lines_in};
@@ -12,7 +12,7 @@ ghost use Rattle.l3_region.specs.Pairs.{ArePairsOf, IsBandClass, lines_in};
 use crate::lanes::no_classes;
 use crate::long::long_bits;
 use crate::rows::row;
-use l3_tables::edge;
+use l3_base::edge;
 
 // Of each lane of tables up to table 24 the sum of the bits up to each band, and in lane 13 of the
 // number of values of 15 and more.

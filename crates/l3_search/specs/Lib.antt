@@ -17,3 +17,8 @@ pub mod Budget
 pub mod Gain
 pub mod Laws
 pub mod ReserveLaws
+pub use Rattle.l3_quant.specs.Reconstruction
+pub use Rattle.l3_transform.specs.Demand
+pub mod Noise
+pub mod NoiseLaws
+pub mod Kernels

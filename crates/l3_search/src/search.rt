@@ -3,15 +3,14 @@ ghost use Rattle.l3_base.specs.Amp.{IsAmp};
 ghost use Rattle.l3_base.specs.Spectrum.{IsLine};
 ghost use Rattle.l3_quant.specs.Gains.{first_gain_of};
 ghost use Rattle.l3_quant.specs.Magnitudes.{AreLinePeaks};
-ghost use Rattle.l3_planes.specs.Units.{ArePlanesOf};
+ghost use Rattle.l3_count.specs.Units.{ArePlanesOf};
 ghost use Rattle.l3_count.specs.Bands.{band_edges};
 ghost use Rattle.l3_count.specs.Count.{count_of};
 ghost use Rattle.l3_count.specs.Memo.{IsLaneOf, lane_of};
 ghost use Rattle.l3_search.specs.Gain.{HasLaneTo, IsLeastWithin, lacking, picked, picked_gain, tried_of};
 
 use l3_base::{Amp, SampleRate, Spectrum, Steps};
-use l3_count::{Count, Memo, count_over, count_zeros};
-use l3_planes::{Planes, no_planes, set};
+use l3_count::{Count, Memo, Planes, count_over, count_zeros, no_planes, set};
 use l3_quant::{first_gain_with, line_peaks};
 use std::sync::ledger::Ledger;
 

@@ -5,13 +5,13 @@ use Rattle.std.proofs.lemmas.Int.{ints}
 use Rattle.std.proofs.lemmas.List.Elements.{All-nil, All-cons, All-head, All-tail}
 use lib.IntN.{*ℤ-zero, zero-*ℤ}
 use Rattle.l3_base.specs.Slots.{subband_in, slot_in}
-use Rattle.l3_tables.specs.Lists.{entry, tabulate}
-use Rattle.l3_tables.specs.Sums.{sum_below, floor_div}
-use Rattle.l3_tables.specs.Window.{window_at}
-use Rattle.l3_tables.specs.Cosines.{cosine64, cosine72}
-use Rattle.l3_tables.specs.Steps.{cs_at, ca_at}
-use Rattle.l3_tables.specs.Filterbank.{sample_at, window_of, column_sum, subband_sum, slot_sum, window_slot, turned_slot, slots_of}
-use Rattle.l3_mdct.specs.Spectrum.{windowed, line_cosine, line_from, line_before, lower_end, upper_end, is_lower, is_upper, line_after, lines_of, spectrum_of_granule}
+use Rattle.l3_base.specs.Lists.{entry, tabulate}
+use Rattle.l3_base.specs.Sums.{sum_below, floor_div}
+use Rattle.l3_base.specs.Window.{window_at}
+use Rattle.l3_base.specs.Cosines.{cosine64, cosine72}
+use Rattle.l3_base.specs.Steps.{cs_at, ca_at}
+use Rattle.l3_base.specs.Filterbank.{sample_at, window_of, column_sum, subband_sum, slot_sum, window_slot, turned_slot, slots_of}
+use Rattle.l3_transform.specs.Spectrum.{windowed, line_cosine, line_from, line_before, lower_end, upper_end, is_lower, is_upper, line_after, lines_of, spectrum_of_granule}
 use Rattle.l3_stream.specs.Units.{zero_lines}
 use Rattle.l3_silence.specs.Silent.{AreZero}
 

@@ -22,7 +22,7 @@ use Rattle.l3_stream.specs.declared.unit.Unit.{Unit}
 use Rattle.l3_stream.specs.Units.{zero_lines}
 use Rattle.l3_stream.specs.Frames.{blank}
 use Rattle.l3_commit.specs.Units.{unit_of, unit_at_gain, unit_within}
-use Rattle.l3_tables.specs.Bands.{band_edges}
+use Rattle.l3_base.specs.Bands.{band_edges}
 use Rattle.l3_silence.specs.Silent.{AreZero}
 
 -- ---- the quantised values

@@ -3,18 +3,18 @@ use Rattle.std.proofs.Common.{◌≡◌, sym, subst, inl, inr, ◌⊎◌, ℕ, z
 use Rattle.std.specs.Prelude.{All, ℤ}
 use Rattle.std.proofs.lemmas.List.Elements.{All-nil}
 use Rattle.l3_base.specs.declared.settings.Settings.{Settings}
-use Rattle.l3_core.specs.declared.cell.Content.{Content}
-use Rattle.l3_core.specs.declared.cell.Content.TheVariants.{Empty, Offered, Claimed, Ready, Withdrawn}
-use Rattle.l3_core.specs.declared.event.Event.{Event}
-use Rattle.l3_core.specs.declared.event.Event.TheVariants as event
-use Rattle.l3_core.specs.declared.event.Answer.{Answer}
-use Rattle.l3_core.specs.declared.event.Answer.TheVariants as answer
-use Rattle.l3_core.specs.declared.event.Offer.TheVariants.{Placed, Busy}
-use Rattle.l3_core.specs.declared.event.Claim.TheVariants.{Job, Nothing, Shut}
-use Rattle.l3_core.specs.declared.event.Deposit.TheVariants.{Kept, Late, Stray}
-use Rattle.l3_core.specs.declared.event.Take.TheVariants.{Got, Revoked, InWork, NotOffered}
-use Rattle.l3_core.specs.Machine.{BoardState, Step, with_cell}
-use Rattle.l3_core.specs.Items.{given, handed_out, items_of}
+use Rattle.l3_board.specs.declared.cell.Content.{Content}
+use Rattle.l3_board.specs.declared.cell.Content.TheVariants.{Empty, Offered, Claimed, Ready, Withdrawn}
+use Rattle.l3_board.specs.declared.event.Event.{Event}
+use Rattle.l3_board.specs.declared.event.Event.TheVariants as event
+use Rattle.l3_board.specs.declared.event.Answer.{Answer}
+use Rattle.l3_board.specs.declared.event.Answer.TheVariants as answer
+use Rattle.l3_board.specs.declared.event.Offer.TheVariants.{Placed, Busy}
+use Rattle.l3_board.specs.declared.event.Claim.TheVariants.{Job, Nothing, Shut}
+use Rattle.l3_board.specs.declared.event.Deposit.TheVariants.{Kept, Late, Stray}
+use Rattle.l3_board.specs.declared.event.Take.TheVariants.{Got, Revoked, InWork, NotOffered}
+use Rattle.l3_board.specs.Machine.{BoardState, Step, with_cell}
+use Rattle.l3_board.specs.Items.{given, handed_out, items_of}
 use Rattle.l3_analysis.specs.Piece.{IsSound, PieceView}
 use Rattle.l3_speculation.specs.Run.{Action, Acts, BoardCall, FrameEnd, GranuleCommit, HoldsSound, RunState, Runs, number_in, opening}
 use Rattle.l3_speculation.specs.Laws.{BoardHandsOutSound}

@@ -9,7 +9,7 @@ use Rattle.l3_base.specs.declared.settings.Settings.{Settings}
 use Rattle.l3_base.specs.declared.rate.SampleRate.{SampleRate}
 use Rattle.l3_base.specs.declared.rate.Channels.{Channels}
 use Rattle.l3_base.specs.declared.rate.Channels.TheVariants.{Mono, Stereo}
-use Rattle.l3_tables.specs.Bands.{band_edges}
+use Rattle.l3_base.specs.Bands.{band_edges}
 use Rattle.l3_quant.specs.Gains.{first_gain_of}
 use Rattle.l3_count.specs.Count.{Counted}
 use Rattle.l3_count.specs.Memo.{kept_at}

@@ -5,7 +5,7 @@ use Rattle.l3_base.specs.declared.settings.Settings.{Settings}
 use Rattle.l3_base.specs.declared.rate.Channels.{Channels}
 use Rattle.l3_base.specs.declared.rate.Channels.TheVariants.{Mono, Stereo}
 use Rattle.l3_base.specs.Lengths.{granules_for}
-use Rattle.l3_tables.specs.Filterbank.{window_of}
+use Rattle.l3_base.specs.Filterbank.{window_of}
 use Rattle.l3_count.specs.Memo.{IsMemoOf, LaneView, empty_memo, kept_at, lane_of}
 use Rattle.l3_count.proofs.Memos.{amp-new, memo_at-empty}
 use Rattle.l3_analysis.specs.declared.stage.Stage.TheVariants.{Transformed}

@@ -3,10 +3,10 @@ use Rattle.std.proofs.Common.{◌≡◌, sym, subst, refl, ℕ, ◌+◌, ◌-◌
 use Rattle.std.specs.Prelude.{All}
 use Rattle.std.proofs.lemmas.List.Elements.{All-cons, All-nil}
 use Rattle.l3_base.specs.Lengths.{granules_for}
-use Rattle.l3_core.specs.declared.event.Event.{Event}
-use Rattle.l3_core.specs.declared.event.Answer.{Answer}
-use Rattle.l3_core.specs.Machine.{BoardState, Step}
-use Rattle.l3_core.specs.Items.{given}
+use Rattle.l3_board.specs.declared.event.Event.{Event}
+use Rattle.l3_board.specs.declared.event.Answer.{Answer}
+use Rattle.l3_board.specs.Machine.{BoardState, Step}
+use Rattle.l3_board.specs.Items.{given}
 use Rattle.l3_analysis.specs.Piece.{HasSpectra, IsSound, PieceView, spectrum_in}
 use Rattle.l3_stream.specs.declared.unit.ChosenFrame.{ChosenFrame}
 use Rattle.l3_commit.specs.declared.track.GranuleDone.{GranuleDone}

@@ -2,9 +2,9 @@
 use Rattle.std.specs.Prelude.{◌≡◌, ◌+◌, ◌-◌, ◌<◌, List, [], ◌∷◌, ◌++◌, ℤ, length}
 use Rattle.l3_base.specs.declared.settings.Settings.{Settings}
 use Rattle.l3_base.specs.Lengths.{granules_for}
-use Rattle.l3_core.specs.declared.event.Event.{Event}
-use Rattle.l3_core.specs.declared.event.Answer.{Answer}
-use Rattle.l3_core.specs.Machine.{BoardState}
+use Rattle.l3_board.specs.declared.event.Event.{Event}
+use Rattle.l3_board.specs.declared.event.Answer.{Answer}
+use Rattle.l3_board.specs.Machine.{BoardState}
 use Rattle.l3_analysis.specs.Piece.{PieceView, spectrum_in}
 use Rattle.l3_stream.specs.declared.unit.ChosenFrame.{ChosenFrame}
 use Rattle.l3_commit.specs.declared.track.GranuleDone.{GranuleDone}

@@ -4,7 +4,7 @@ use Rattle.l3_base.specs.Amp.{no_amp}
 use Rattle.l3_base.specs.Rates.{channels_of}
 use Rattle.l3_base.specs.Spectrum.{IsSpectrum}
 use Rattle.l3_base.specs.declared.settings.Settings.{Settings}
-use Rattle.l3_tables.specs.Bands.{band_edges}
+use Rattle.l3_base.specs.Bands.{band_edges}
 use Rattle.l3_quant.specs.Gains.{first_gain_of}
 use Rattle.l3_count.specs.Count.{Counted, count_of}
 use Rattle.l3_count.specs.Memo.{kept_at, no_counts}

@@ -3,11 +3,11 @@
 use Rattle.std.specs.Prelude.{◌≡◌, ℕ, ◌+◌, ◌<◌, List, [], ◌∷◌, ◌++◌, All, ℤ, length, slice_get, Some}
 use Rattle.l3_base.specs.declared.settings.Settings.{Settings}
 use Rattle.l3_base.specs.Lengths.{granules_for}
-use Rattle.l3_core.specs.declared.cell.Content.{Content}
-use Rattle.l3_core.specs.declared.event.Event.{Event}
-use Rattle.l3_core.specs.declared.event.Answer.{Answer}
-use Rattle.l3_core.specs.Machine.{BoardState, Step}
-use Rattle.l3_core.specs.Items.{given, items_of}
+use Rattle.l3_board.specs.declared.cell.Content.{Content}
+use Rattle.l3_board.specs.declared.event.Event.{Event}
+use Rattle.l3_board.specs.declared.event.Answer.{Answer}
+use Rattle.l3_board.specs.Machine.{BoardState, Step}
+use Rattle.l3_board.specs.Items.{given, items_of}
 use Rattle.l3_analysis.specs.Piece.{HasSpectra, IsSound, PieceView, spectrum_in}
 use Rattle.l3_stream.specs.declared.unit.ChosenFrame.{ChosenFrame}
 use Rattle.l3_commit.specs.Encoding.{spectra_of}

@@ -8,8 +8,8 @@ ghost use Rattle.l3_speculation.specs.Calls.{IsEvent, IsFrameEnd, IsGranule};
 
 use l3_analysis::{Piece, PieceBox};
 use l3_base::Steps;
+use l3_board::{Answer, Core, Event};
 use l3_commit::{GranuleDone, Track};
-use l3_core::{Answer, Core, Event};
 use l3_stream::ChosenFrame;
 use std::sync::ledger::Ledger;
 

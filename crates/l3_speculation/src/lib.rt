@@ -6,7 +6,7 @@
 //! count that the choice tries was made anew or brought along by a piece.
 //! The chosen frames are those of ISO/IEC 11172-3, 2.4 and Annex C; pieces and guesses are this
 //! project's own.
-//! Before: `l3_core` (the board as a machine), `l3_analysis` (pieces), `l3_commit` (the track and
+//! Before: `l3_board` (the board as a machine), `l3_analysis` (pieces), `l3_commit` (the track and
 //! the choice). After: nothing; no code calls it.
 #![tactic(auto)]
 

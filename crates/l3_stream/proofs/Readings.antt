@@ -1,7 +1,7 @@
 -- The worked readings, computed.
 use Rattle.std.proofs.Common.{refl}
 use Rattle.l3_base.specs.Lengths.{remainder_of, slots_before}
-use Rattle.l3_tables.specs.Bands.{edges_at, edge_at}
+use Rattle.l3_base.specs.Bands.{edges_at, edge_at}
 use Rattle.l3_huff.specs.Tables.{is_table, width_at, first_at, linbits_at, lengths_of, values_of, codes_of, quad_lengths, quad_values, quad_codes}
 use Rattle.l3_huff.specs.Reading.{sign_at, tail_at, pair_at, signs_at, quad_at}
 use Rattle.l3_stream.specs.Units.{edge, table_at, zero_lines}

@@ -3,7 +3,7 @@
 use Rattle.std.specs.Prelude.{◌≡◌, ℕ, ◌+◌, ◌-◌, ◌*◌, ◌≤◌, ◌<◌, ◌^◌, Bool, List, [], ◌∷◌, ◌++◌, length, replicate, take, drop, ℤ, pos, nat_lt, if◌then◌else◌, slice_index, get_or, ⊤}
 use Rattle.l3_base.specs.declared.settings.Settings.{Settings}
 use Rattle.l3_base.specs.Rates.{hertz_index_of}
-use Rattle.l3_tables.specs.Bands.{edge_at}
+use Rattle.l3_base.specs.Bands.{edge_at}
 use Rattle.l3_huff.specs.declared.quads.QuadTable.{QuadTable}
 use Rattle.l3_huff.specs.Tables.{IsTable}
 use Rattle.l3_huff.specs.Codes.{IsQuad, pair_code_of, quad_code_of}

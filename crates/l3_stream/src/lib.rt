@@ -8,8 +8,8 @@
 //! The syntax is that of Layer III (ISO/IEC 11172-3, clause 2.4), as far as the profile has it. The
 //! codes of the units of all frames stand on one row of bits, the tape: the main data of all frames
 //! joined, headers and side information left out.
-//! Before: `l3_huff` (code tables), `l3_tables` (bands), `l3_bits`. After: `l3_frames`
-//! (the writer), `l3_reader` and `l3_commit`, which cite these words.
+//! Before: `l3_huff` (code tables), `l3_base` (bands), `l3_bits`. After: `l3_frames`
+//! (the writer), `l3_frames` and `l3_commit`, which cite these words.
 #![tactic(auto)]
 
 mod code_bits;

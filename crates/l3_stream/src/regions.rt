@@ -66,5 +66,5 @@ pub fn first_line(settings: &Settings, band: usize) -> usize
     requires { band ≤ 22 }
     ensures { result ≡ edge settings.now band }
 {
-    usize::from(l3_tables::edge(settings.sample_rate.index(), band))
+    usize::from(l3_base::edge(settings.sample_rate.index(), band))
 }

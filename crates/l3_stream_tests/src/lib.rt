@@ -2,7 +2,7 @@
 //!
 //! Headers, side information and codes are compared with bytes that were worked out by hand from
 //! the syntax (ISO/IEC 11172-3, clause 2.4).
-//! Before: `l3_stream`, `l3_frames` and `l3_reader`, which are tested here.
+//! Before: `l3_stream` and `l3_frames`, which are tested here.
 #![tactic(auto)]
 
 #[cfg(test)]

@@ -1,6 +1,6 @@
 use crate::rows::check_row;
+use l3_frames::{FrameReader, StreamFault, read_stream};
 use l3_io::{MemSource, Source, SteadySource, read_full};
-use l3_reader::{FrameReader, StreamFault, read_stream};
 use std::alloc::Global;
 
 // Sets bytes at places.

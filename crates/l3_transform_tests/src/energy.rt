@@ -3,7 +3,7 @@
 ghost use Rattle.std.specs.Prelude.{◌<◌, ◌^◌, unsigned_abs};
 
 use l3_base::{SampleRate, Spectrum};
-use l3_energy::{demand, energies};
+use l3_transform::{demand, energies};
 
 // A spectrum that is 0 but for this line.
 fn one_line(at: usize, x: i32) -> Spectrum

@@ -1,7 +1,7 @@
 //! The transforms: slots, spectra, middle and side, and demands, on worked inputs.
 //!
 //! Tests alone: values worked out apart from this source.
-//! Before: `l3_polyphase`, `l3_mdct` and `l3_energy`, which are tested here. After: nothing.
+//! Before: `l3_transform`, which is tested here. After: nothing.
 #![tactic(auto)]
 
 #[cfg(test)]

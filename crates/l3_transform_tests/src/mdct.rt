@@ -1,7 +1,7 @@
 //! Lines of a few slots, and slots folded.
 
 use l3_base::{Slots36, Spectrum};
-use l3_mdct::{fold36, spectrum};
+use l3_transform::{fold36, spectrum};
 
 #[test]
 fn line_of_a_slot(rt: HostRuntime) {

@@ -1,10 +1,10 @@
 //! Lines of middle and side, and their demands beside those of left and right.
 
 ghost use Rattle.std.specs.Prelude.{◌^◌, All};
-ghost use Rattle.l3_tables.specs.Sums.{IsWithin};
+ghost use Rattle.l3_base.specs.Sums.{IsWithin};
 
 use l3_base::Spectrum;
-use l3_energy::{prefer, turn};
+use l3_transform::{prefer, turn};
 
 // A spectrum that is 0 but for line 0.
 fn one_line(x: i32) -> Spectrum

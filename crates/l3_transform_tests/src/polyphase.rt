@@ -3,7 +3,7 @@
 ghost use Rattle.std.specs.Prelude.{◌<◌, ◌≤◌};
 
 use l3_base::Slots36;
-use l3_polyphase::{Kept, fold64, slot, slots36};
+use l3_transform::{Kept, fold64, slot, slots36};
 
 // Subbands 0 and 1 of the slot of samples that are 0 but for one of 16384.
 fn slot_of_an_impulse(at: usize) -> (i32, i32)

@@ -5,9 +5,9 @@ use Rattle.std.proofs.lemmas.List.{drop-drop, take_all, append-nil, length-repli
 use Rattle.std.proofs.Math.Seq.{take-add}
 use Rattle.l3_base.specs.declared.rate.Channels.{Channels}
 use Rattle.l3_base.specs.declared.rate.Channels.TheVariants.{Mono, Stereo}
-use Rattle.l3_tables.specs.Lists.{entry}
-use Rattle.l3_tables.specs.Filterbank.{sample_at, window_of}
-use Rattle.l3_tables.proofs.ListLemmas.{tabulate-same}
+use Rattle.l3_base.specs.Lists.{entry}
+use Rattle.l3_base.specs.Filterbank.{sample_at, window_of}
+use Rattle.l3_base.proofs.ListLemmas.{tabulate-same}
 use Rattle.l3_wav.specs.Pcm.{left_of, right_of, right_count}
 use Rattle.l3_wav.specs.Samples.{SamplesState, coming}
 use Rattle.l3_wav.specs.ReadingOn.{right_zeros, InStereo, InMono, Adds, ReadsOn}

@@ -13,3 +13,6 @@ mod HoldLemmas
 mod ReadLemmas
 mod WindowLemmas
 mod SoundLemmas
+pub mod DemoFileLemmas
+pub mod DemoSampleLemmas
+pub mod DemoValueLemmas

@@ -8,9 +8,9 @@ use Rattle.std.proofs.lemmas.List.Edits.{take-paste}
 use Rattle.std.specs.List.{copy_within}
 use Rattle.std.proofs.Math.ListN.{drop_of_length-le}
 use Rattle.std.specs.Prelude.{ℤ, pos, negsuc, ◌-ℤ◌}
-use Rattle.l3_tables.specs.Lists.{entry}
-use Rattle.l3_tables.specs.Filterbank.{sample_at, window_of}
-use Rattle.l3_tables.proofs.ListLemmas.{tabulate-same, tabulate-entries}
+use Rattle.l3_base.specs.Lists.{entry}
+use Rattle.l3_base.specs.Filterbank.{sample_at, window_of}
+use Rattle.l3_base.proofs.ListLemmas.{tabulate-same, tabulate-entries}
 use Rattle.l3_wav.specs.Windows.{kept_of, window_in}
 
 pub window-filled : (window kept : List ℤ) (after : ℕ) → length window ≡ 1632 → ((n : ℕ) → n < 1632 → entry window n ≡ entry kept (576 * after + n)) → window ≡ window_in kept after

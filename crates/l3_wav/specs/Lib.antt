@@ -6,3 +6,5 @@ pub mod Samples
 pub mod Steps
 pub mod Wav
 pub mod Windows
+pub mod Demo
+pub mod DemoLaws

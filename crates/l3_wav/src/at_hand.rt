@@ -1,5 +1,5 @@
 ghost use Rattle.std.specs.Prelude.{[], ◌≡◌, ◌+◌, ◌-◌, ◌*◌, ◌<◌, ◌≤◌, ◌⊎◌, ◌^◌, true, false, ℕ, ℤ, List, max, IfOk, IsOk, OnOk, OnErr, IfSome, IfNone};
-ghost use Rattle.l3_tables.specs.Filterbank.{window_of};
+ghost use Rattle.l3_base.specs.Filterbank.{window_of};
 ghost use Rattle.l3_wav.specs.Pcm.{left_of, right_of};
 ghost use Rattle.l3_wav.specs.Samples.{coming};
 ghost use Rattle.l3_io.specs.Causes.{HasCause};

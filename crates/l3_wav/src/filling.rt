@@ -1,5 +1,5 @@
 ghost use Rattle.std.specs.Prelude.{◌≡◌, ◌+◌, ◌*◌, ◌<◌, ◌≤◌, ℕ, drop, length};
-ghost use Rattle.l3_tables.specs.Lists.{entry};
+ghost use Rattle.l3_base.specs.Lists.{entry};
 ghost use Rattle.l3_wav.specs.Windows.{window_in};
 
 // 1632 samples from this place on, 0 past the end.

@@ -1,6 +1,6 @@
 use Rattle.std.proofs.Common.{sym, ◌∙◌}
 use Rattle.l3_base.specs.declared.rate.SampleRate.TheVariants.{Hz44100}
-use Rattle.l3_tables.specs.Bands.{band_edges}
+use Rattle.l3_base.specs.Bands.{band_edges}
 use Rattle.l3_count_tests.proofs.Counts.{count_of-own}
 use Rattle.l3_count_tests.proofs.noise.noises_of.Goals as goal
 

@@ -1,7 +1,7 @@
 use Rattle.std.proofs.Common.{◌≡◌, ◌+◌, ◌*◌, arith, eqb}
-use Rattle.l3_core.specs.declared.event.Event.TheVariants as event
-use Rattle.l3_core.specs.declared.event.Answer.TheVariants as answer
-use Rattle.l3_core.specs.declared.event.Take.TheVariants.{Revoked}
+use Rattle.l3_board.specs.declared.event.Event.TheVariants as event
+use Rattle.l3_board.specs.declared.event.Answer.TheVariants as answer
+use Rattle.l3_board.specs.declared.event.Take.TheVariants.{Revoked}
 use Rattle.l3_lanes.specs.History.{Extends}
 use Rattle.l3_lanes.proofs.WholeLemmas.{revokes_whole, of_first}
 use Rattle.l3_lanes.proofs.desk_steps.revoke.Goals as goal

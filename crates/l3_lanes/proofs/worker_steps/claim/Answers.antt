@@ -1,7 +1,7 @@
 use Rattle.std.proofs.Common.{◌≡◌, ◌+◌, ◌*◌, arith, eqb}
-use Rattle.l3_core.specs.declared.event.Event.TheVariants as event
-use Rattle.l3_core.specs.declared.event.Answer.TheVariants as answer
-use Rattle.l3_core.specs.declared.event.Claim.TheVariants.{Job}
+use Rattle.l3_board.specs.declared.event.Event.TheVariants as event
+use Rattle.l3_board.specs.declared.event.Answer.TheVariants as answer
+use Rattle.l3_board.specs.declared.event.Claim.TheVariants.{Job}
 use Rattle.l3_lanes.specs.History.{Extends}
 use Rattle.l3_lanes.proofs.WholeLemmas.{claims_whole, of_first}
 use Rattle.l3_lanes.proofs.worker_steps.claim.Goals as goal

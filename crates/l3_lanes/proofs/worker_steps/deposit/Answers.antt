@@ -1,7 +1,7 @@
 use Rattle.std.proofs.Common.{◌≡◌, ◌+◌, ◌*◌, arith, eqb}
-use Rattle.l3_core.specs.declared.event.Event.TheVariants as event
-use Rattle.l3_core.specs.declared.event.Answer.TheVariants as answer
-use Rattle.l3_core.specs.declared.event.Deposit.TheVariants.{Kept}
+use Rattle.l3_board.specs.declared.event.Event.TheVariants as event
+use Rattle.l3_board.specs.declared.event.Answer.TheVariants as answer
+use Rattle.l3_board.specs.declared.event.Deposit.TheVariants.{Kept}
 use Rattle.l3_lanes.specs.History.{Extends}
 use Rattle.l3_lanes.proofs.WholeLemmas.{deposits_whole, of_second}
 use Rattle.l3_lanes.proofs.worker_steps.deposit.Goals as goal

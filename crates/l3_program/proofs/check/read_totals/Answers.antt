@@ -1,7 +1,7 @@
 use Rattle.std.proofs.Common.{rules, ◌≡◌, ◌+◌, ◌∙◌, ap, sym, refl, arith, Err, Some}
 use Rattle.std.specs.Prelude.{IfSome}
 use Rattle.l3_stream.specs.declared.fault.StreamFault.TheVariants as faults
-use Rattle.l3_reader.specs.InTurn.{Progress, BeginsWithFrame, GivesFrame, HasStopped}
+use Rattle.l3_frames.specs.InTurn.{Progress, BeginsWithFrame, GivesFrame, HasStopped}
 use Rattle.l3_program.specs.Check.{deviation_in, frames_limit}
 use Rattle.l3_program.proofs.CheckLemmas.{summed_first, summed_more, deviates, stopped, when_some, when_err}
 use Rattle.l3_program.proofs.check.read_totals.Goals as goal

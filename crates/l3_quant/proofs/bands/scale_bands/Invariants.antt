@@ -1,6 +1,6 @@
 use Rattle.std.proofs.Common.{◌≡◌, ℕ, ◌+◌, ◌<◌, ◌≤◌, ◌^◌, min, pos, get_or}
 use Rattle.std.specs.Prelude.{unsigned_abs}
-use Rattle.l3_tables.specs.Bands.{edge_at}
+use Rattle.l3_base.specs.Bands.{edge_at}
 use Rattle.l3_quant.specs.Quantiser.{scaled, steps_of}
 use Rattle.l3_quant.specs.Amplified.{band_gain}
 use Rattle.l3_quant.proofs.bands.scale_bands.Given as goal

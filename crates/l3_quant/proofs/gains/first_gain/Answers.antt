@@ -1,5 +1,5 @@
 use Rattle.std.proofs.Common.{List, ℤ, pos, arith, subst}
-use Rattle.l3_tables.specs.Peaks.{IsPeak}
+use Rattle.l3_base.specs.Peaks.{IsPeak}
 use Rattle.l3_quant.specs.Quantiser.{magnitude, quantised_lines}
 use Rattle.l3_quant.proofs.Codable.{codable_is_tested, one_above}
 use Rattle.l3_quant.proofs.PeakLemmas.{one_peak_above, one_peak_codable, one_peak_first}

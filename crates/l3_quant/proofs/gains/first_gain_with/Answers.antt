@@ -1,6 +1,6 @@
 use Rattle.std.proofs.Common.{◌≡◌, ℕ, pos, arith, subst}
 use Rattle.std.specs.Prelude.{unsigned_abs}
-use Rattle.l3_tables.specs.Bands.{band_edges}
+use Rattle.l3_base.specs.Bands.{band_edges}
 use Rattle.l3_quant.specs.Amplified.{quantised_bands}
 use Rattle.l3_quant.proofs.Codable.{codable_is_tested, one_above}
 use Rattle.l3_quant.proofs.PeakLemmas.{FirstSoFar, first_codable, first_is, first_more, none_below}

@@ -1,5 +1,5 @@
 use Rattle.std.proofs.Common.{arith}
-use Rattle.l3_tables.proofs.Edges.{edge_rises}
+use Rattle.l3_base.proofs.Edges.{edge_rises}
 use Rattle.l3_quant.proofs.peaks.band_peak.Goals as goal
 
 pub slice_bounds-peak-count : goal.slice_bounds-peak-count

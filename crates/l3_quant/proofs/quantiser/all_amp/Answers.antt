@@ -2,8 +2,8 @@ use Rattle.std.proofs.Common.{◌≡◌, ◌<◌, true, ap, ◌∙◌, arith, le
 use Rattle.std.specs.Prelude.{Any, unsigned_abs}
 use Rattle.std.proofs.lemmas.Bool.{OnFalse_at, OnFalse_from, OnTrue_at, OnTrue_from}
 use Rattle.l3_base.specs.Rates.{hertz_index_of}
-use Rattle.l3_tables.specs.Bands.{edges_at}
-use Rattle.l3_tables.proofs.Edges.{index_small}
+use Rattle.l3_base.specs.Bands.{edges_at}
+use Rattle.l3_base.proofs.Edges.{index_small}
 use Rattle.l3_quant.specs.Quantiser.{IsCodable}
 use Rattle.l3_quant.specs.Amplified.{quantised_bands}
 use Rattle.l3_quant.specs.Values.{AreScaled}

@@ -3,7 +3,7 @@ use Rattle.std.specs.Prelude.{unsigned_abs}
 use Rattle.std.proofs.Math.ListN.{length-set}
 use Rattle.std.proofs.lemmas.Int.{to_z-of_z}
 use Rattle.std.proofs.lemmas.List.Elements.{All-from_get_or}
-use Rattle.l3_tables.proofs.ListLemmas.{filled_more}
+use Rattle.l3_base.proofs.ListLemmas.{filled_more}
 use Rattle.l3_quant.specs.Quantiser.{magnitude_at, with_sign_of}
 use Rattle.l3_quant.proofs.Codable.{magnitude-cut}
 use Rattle.l3_quant.proofs.quantiser.write_values.Goals as goal

@@ -1,6 +1,6 @@
 use Rattle.std.proofs.Common.{◌≡◌, ℕ, List, ◌≤◌, ◌+◌, ◌*◌, ◌/◌, ◌%◌, ◌∙◌, length, arith, ap, sym, refl, subst}
 use Rattle.std.specs.Prelude.{ℤ, All, slice_range, unsigned_abs}
-use Rattle.l3_tables.specs.Bands.{edges_at, band_edges}
+use Rattle.l3_base.specs.Bands.{edges_at, band_edges}
 use Rattle.l3_region.specs.Pairs.{ArePairsOf, lines_in, unpacked}
 use Rattle.l3_region.specs.declared.split.Split.{Split}
 use Rattle.l3_region.specs.Lanes.{IsBestPair, rows_of}

@@ -1,5 +1,5 @@
 use Rattle.std.proofs.Common.{ℕ, ◌<◌, ◌≤◌, get_or}
-use Rattle.l3_tables.specs.Bands.{edge_at}
+use Rattle.l3_base.specs.Bands.{edge_at}
 use Rattle.l3_region.proofs.sums.need_linbits.Given as goal
 
 abbrev pub invariant-loop-band : goal.invariant-loop-band

@@ -3,8 +3,8 @@ use Rattle.std.specs.Prelude.{slice_range}
 use Rattle.std.proofs.lemmas.Bool.{cases_eq, cases_lt}
 use Rattle.std.proofs.lemmas.List.{get_or_past}
 use Rattle.std.proofs.Math.ListN.{set, length-set}
-use Rattle.l3_tables.specs.Bands.{edge_at}
-use Rattle.l3_tables.proofs.Edges.{edge_order}
+use Rattle.l3_base.specs.Bands.{edge_at}
+use Rattle.l3_base.proofs.Edges.{edge_order}
 use Rattle.std.specs.List.{list_all}
 use Rattle.l3_region.specs.Split.{end_of_pairs}
 use Rattle.l3_region.specs.Pairs.{IsBandClass, lines_in}

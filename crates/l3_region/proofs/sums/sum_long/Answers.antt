@@ -1,10 +1,10 @@
 use Rattle.std.proofs.Common.{◌≡◌, ℕ, List, ◌+◌, ◌*◌, ◌/◌, ◌%◌, ◌<◌, ◌≤◌, ◌≢◌, ◌∙◌, inl, inr, arith, ap, sym, min}
 use Rattle.std.specs.Prelude.{ℤ}
 use Rattle.std.proofs.lemmas.Bool.{cases_lt}
-use Rattle.l3_tables.specs.Bands.{edge_at}
+use Rattle.l3_base.specs.Bands.{edge_at}
 use Rattle.l3_region.specs.Pairs.{lines_in}
 use Rattle.l3_region.specs.Lanes.{cell_at, pairs_at, short_sum}
-use Rattle.l3_tables.proofs.Edges.{edge_first, edge_order}
+use Rattle.l3_base.proofs.Edges.{edge_first, edge_order}
 use Rattle.l3_region.proofs.Kept.{short_sum-le, short_sum-none}
 use Rattle.l3_region.proofs.LaneSums.{none_here, none_cells}
 use Rattle.l3_region.proofs.sums.sum_long.Goals as goal

@@ -1,5 +1,5 @@
 use Rattle.std.proofs.Common.{◌≡◌, ℕ, ◌+◌, ◌*◌, ◌/◌, ◌≢◌, ◌<◌, [], length, get_or, min}
-use Rattle.l3_tables.specs.Bands.{edge_at}
+use Rattle.l3_base.specs.Bands.{edge_at}
 use Rattle.l3_region.specs.Pairs.{lines_in}
 use Rattle.l3_region.specs.Lanes.{cell_at, pairs_at, short_sum}
 use Rattle.l3_region.proofs.sums.sum_long.Given as goal

@@ -1,6 +1,6 @@
 use Rattle.std.proofs.Common.{◌≡◌, ℕ, ◌+◌, ◌-◌, ◌<◌, ◌≤◌, Some, false, true}
 use Rattle.l3_quant.specs.Gains.{first_gain_of}
-use Rattle.l3_planes.specs.Units.{ArePlanesOf}
+use Rattle.l3_count.specs.Units.{ArePlanesOf}
 use Rattle.l3_count.specs.Bands.{band_edges}
 use Rattle.l3_count.specs.Count.{count_of}
 use Rattle.l3_count.specs.Memo.{IsLaneOf, lane_of}

@@ -1,5 +1,5 @@
 use Rattle.std.proofs.Common.{◌∙◌, ap}
-use Rattle.l3_tables.specs.Bands.{edge_at}
+use Rattle.l3_base.specs.Bands.{edge_at}
 use Rattle.l3_stream.specs.Units.{edge}
 use Rattle.l3_stream.proofs.regions.first_line.Goals as goal
 

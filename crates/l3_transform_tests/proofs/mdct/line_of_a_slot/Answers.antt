@@ -1,7 +1,7 @@
 use Rattle.std.proofs.Common.{pos, replicate, lit≤}
 use Rattle.std.proofs.lemmas.List.Elements.{All-replicate, All-set}
 use Rattle.std.specs.Prelude.{All}
-use Rattle.l3_tables.specs.Sums.{IsWithin}
+use Rattle.l3_base.specs.Sums.{IsWithin}
 use Rattle.l3_transform_tests.proofs.mdct.line_of_a_slot.Goals as goal
 
 pub spectrum-requires : goal.spectrum-requires

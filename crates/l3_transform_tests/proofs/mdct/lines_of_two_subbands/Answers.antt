@@ -2,7 +2,7 @@ use Rattle.std.proofs.Common.{ℕ, zero, suc, List, [], ◌∷◌, get_or, ℤ, 
 use Rattle.std.proofs.lemmas.List.Elements.{All-nil, All-replicate, All-set, All-head, All-tail}
 use Rattle.std.specs.Prelude.{All}
 use Rattle.l3_base.specs.Slots.{slots_with}
-use Rattle.l3_tables.specs.Sums.{IsWithin}
+use Rattle.l3_base.specs.Sums.{IsWithin}
 use Rattle.l3_transform_tests.proofs.mdct.lines_of_two_subbands.Goals as goal
 
 subband_small : (bound : ℕ) (bands : List (List ℤ)) (i : ℕ) → All (All (IsWithin bound)) bands → All (IsWithin bound) (get_or bands i [])

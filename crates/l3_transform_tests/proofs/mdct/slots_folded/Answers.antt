@@ -1,6 +1,6 @@
 use Rattle.std.proofs.Common.{◌≤◌, pos, get_or, refl, arith}
 use Rattle.std.specs.Prelude.{unsigned_abs}
-use Rattle.l3_tables.proofs.Entries.{within_at}
+use Rattle.l3_base.proofs.Entries.{within_at}
 use Rattle.l3_transform_tests.specs.declared.mdct.TheConstants.{SQUARES}
 use Rattle.l3_transform_tests.proofs.mdct.slots_folded.Goals as goal
 

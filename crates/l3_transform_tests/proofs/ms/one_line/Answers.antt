@@ -1,7 +1,7 @@
 use Rattle.std.proofs.Common.{rules, FitsSigned, w32, to_z, of_z, ◌^◌, arith, pos, replicate, subst, sym}
 use Rattle.std.proofs.lemmas.Int.{to_z-of_z}
 use Rattle.std.proofs.lemmas.List.Elements.{All-replicate, All-same, All-set}
-use Rattle.l3_tables.specs.Sums.{IsWithin}
+use Rattle.l3_base.specs.Sums.{IsWithin}
 use Rattle.l3_transform_tests.proofs.ms.one_line.Goals as goal
 
 pub returns : goal.returns

@@ -1,5 +1,5 @@
 use Rattle.std.proofs.Common.{◌≡◌, ◌<◌, ◌+◌, ℕ, length}
-use Rattle.l3_tables.specs.Lists.{entry}
+use Rattle.l3_base.specs.Lists.{entry}
 use Rattle.l3_wav.proofs.filling.fill.Given as goal
 
 abbrev pub invariant-loop-n : goal.invariant-loop-n

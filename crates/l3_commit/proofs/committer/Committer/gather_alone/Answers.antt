@@ -1,5 +1,5 @@
 use Rattle.std.proofs.Common.{rules, ◌≡◌, ◌∙◌, true, sym, ap, subst}
-use Rattle.l3_tables.specs.Filterbank.{window_of}
+use Rattle.l3_base.specs.Filterbank.{window_of}
 use Rattle.l3_wav.specs.Holding.{Holds}
 use Rattle.l3_commit.specs.Tracks.{next_of}
 use Rattle.l3_commit.specs.Standing.{CommitterView}

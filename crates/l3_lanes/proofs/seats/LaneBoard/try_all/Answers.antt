@@ -1,7 +1,7 @@
 use Rattle.std.proofs.Common.{◌∙◌, arith, subst}
-use Rattle.l3_core.specs.declared.event.Event.TheVariants as event
-use Rattle.l3_core.specs.declared.event.Answer.TheVariants as answer
-use Rattle.l3_core.specs.declared.event.Claim.TheVariants.{Job}
+use Rattle.l3_board.specs.declared.event.Event.TheVariants as event
+use Rattle.l3_board.specs.declared.event.Answer.TheVariants as answer
+use Rattle.l3_board.specs.declared.event.Claim.TheVariants.{Job}
 use Rattle.l3_lanes.specs.declared.view.Past.{Past}
 use Rattle.l3_lanes.specs.History.{Extends}
 use Rattle.l3_lanes.proofs.SearchLemmas.{all_tried, lost_more, tried_more}

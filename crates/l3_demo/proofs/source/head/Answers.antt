@@ -1,5 +1,0 @@
-use Rattle.std.proofs.Common.{refl}
-use Rattle.l3_demo.proofs.source.head.Goals as goal
-
-pub returns : goal.returns
-returns c = rw (c.to_le_bytes-size.ensures, c.to_le_bytes-data.ensures) refl

@@ -1,3 +1,0 @@
-pub mod Digits
-mod LineLemmas
-pub mod Sums

@@ -1,5 +1,0 @@
-use Rattle.l3_energy.proofs.Digits.{binary_digits-has}
-use Rattle.l3_energy.proofs.laws.demand_laws.Goals as goal
-
-pub returns : goal.returns
-returns c = binary_digits-has

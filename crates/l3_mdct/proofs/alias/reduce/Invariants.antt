@@ -1,9 +1,0 @@
-use Rattle.std.proofs.Common.{◌<◌}
-use Rattle.l3_mdct.proofs.Butterflies.{AreReduced}
-use Rattle.l3_mdct.proofs.alias.reduce.Given as goal
-
-abbrev pub invariant-loop-border : goal.invariant-loop-border
-invariant-loop-border l = record {
-  from : 0 < l.border;
-  lines : AreReduced l.border l.fn.out l.out;
-}

@@ -1,6 +1,0 @@
-use Rattle.std.proofs.Common.{◌∙◌}
-use Rattle.l3_mdct.proofs.Reduction.{lines_are}
-use Rattle.l3_mdct.proofs.transform.spectrum.Goals as goal
-
-pub returns-clause-value : goal.returns-clause-value
-returns-clause-value c = c.reduce.ensures.value ∙ lines_are c.transform.new.out c.args.slots.now c.transform.ensures.value

@@ -1,4 +1,0 @@
-mod Rebuilt
-mod SumLemmas
-mod CompressLemmas
-mod CodedLemmas

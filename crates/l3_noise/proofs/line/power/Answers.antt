@@ -1,6 +1,0 @@
-use Rattle.std.proofs.Common.{◌∙◌}
-use Rattle.l3_noise.proofs.Rebuilt.{reconstructed-power}
-use Rattle.l3_noise.proofs.line.power.Goals as goal
-
-pub returns-clause-value : goal.returns-clause-value
-returns-clause-value c = c.reconstruct.ensures.value ∙ reconstructed-power c.args.n

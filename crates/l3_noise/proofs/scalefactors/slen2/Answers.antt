@@ -1,7 +1,0 @@
-use Rattle.std.proofs.Common.{ap}
-use Rattle.l3_noise.specs.Noise.{slen2_of}
-use Rattle.l3_noise.proofs.scalefactors.slen2.Goals as goal
-
-pub returns-clause-value : goal.returns-clause-value
-unfolding slen2_of
-returns-clause-value c = ap slen2_of c.from.ensures

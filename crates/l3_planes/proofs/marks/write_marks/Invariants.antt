@@ -1,7 +1,0 @@
-use Rattle.l3_planes.proofs.MarkLemmas.{AreMarked}
-use Rattle.l3_planes.proofs.marks.write_marks.Given as goal
-
-abbrev pub invariant-loop-band : goal.invariant-loop-band
-invariant-loop-band l = record {
-  marked : AreMarked l.frequency l.keys l.band l.marks;
-}

@@ -1,0 +1,10 @@
+use Rattle.std.proofs.Common.{◌≡◌, ℕ, ◌<◌, ◌^◌, get_or, length}
+use Rattle.l3_search.specs.Noise.{allowed_of}
+use Rattle.l3_search.proofs.allowance.allowed.Given as goal
+
+abbrev pub invariant-loop-band : goal.invariant-loop-band
+invariant-loop-band l = record {
+  long : length l.out ≡ 22;
+  value : (k : ℕ) → k < l.band → get_or l.out k 0 ≡ allowed_of l.frequency l.energies k;
+  bound : (k : ℕ) → k < l.band → get_or l.out k 0 < 2 ^ 60;
+}

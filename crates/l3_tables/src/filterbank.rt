@@ -1,7 +1,0 @@
-ghost use Rattle.l3_tables.specs.Filterbank.{SlotsOfWindow, SlotIsBounded};
-
-/// A window has the slots of its granule, and each is bounded.
-pub fn filterbank_laws()
-    ensures windows { SlotsOfWindow }
-    ensures bound { SlotIsBounded }
-{}

@@ -1,6 +1,0 @@
-ghost use Rattle.l3_tables.specs.Sums.{FloorIsGreatest};
-
-/// Floor division is what its name says.
-pub fn sum_laws()
-    ensures { FloorIsGreatest }
-{}

@@ -1,0 +1,21 @@
+pub mod RoundingLemmas
+pub mod Shapes
+pub mod WindowSlots
+pub mod FoldLaw
+pub mod HalvingLaw
+pub mod BothEnds
+pub mod ColumnSlots
+pub mod SharedSlots
+pub mod Pairing
+pub mod PairSums
+pub mod WrappedSums
+pub mod Bounds
+pub mod Casts
+pub mod CosineLemmas
+pub mod SlotFoldLaw
+pub mod SubbandLines
+pub mod Reduction
+pub mod Butterflies
+pub mod Digits
+mod LineLemmas
+pub mod EnergySums

@@ -1,0 +1,13 @@
+pub mod Samples
+pub mod Fold
+pub mod Keeping
+pub mod Pairs
+pub use Rattle.l3_base.specs.Lists
+pub use Rattle.l3_base.specs.Sums
+pub use Rattle.l3_base.specs.Filterbank
+pub mod Spectrum
+pub mod SlotFold
+pub mod Alias
+pub use Rattle.l3_base.specs.Rates
+pub mod Demand
+pub mod Joint

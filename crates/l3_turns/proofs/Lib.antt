@@ -1,4 +1,0 @@
-pub mod Pushed
-pub mod Counts
-pub mod Loop
-pub mod SoFar

@@ -1,3 +1,0 @@
-pub use Rattle.l3_commit.specs.Encoding
-pub mod Turning
-pub mod Answers
