@@ -1,7 +1,7 @@
 -- The planes of a unit.
 use Rattle.std.specs.Prelude.{ℕ, List, ℤ}
 use Rattle.l3_quant.specs.Magnitudes.{AreLinePeaks}
-use Rattle.l3_count.specs.declared.unit.Planes.{Planes}
+use Rattle.l3_count.specs.declared.planes.Planes.{Planes}
 use Rattle.l3_count.specs.Rows.{AreRows, AreTops}
 use Rattle.l3_count.specs.Ends.{AreEnds}
 use Rattle.l3_count.specs.Classes.{AreClassPlanes}

@@ -8,7 +8,7 @@ ghost use Rattle.l3_count.specs.Units.{ArePlanesOf};
 ghost use Rattle.l3_count.specs.Count.{count_of};
 
 use crate::count::Count;
-use crate::unit::{Planes, classes_at, is_codable_at, no_planes, pairs_at, set, split_at};
+use crate::planes::{Planes, classes_at, is_codable_at, no_planes, pairs_at, set, split_at};
 use l3_base::{Amp, SampleRate, Spectrum, Steps};
 use l3_quant::line_peaks;
 use l3_region::{Split, split_of_pairs};

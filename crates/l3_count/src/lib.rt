@@ -21,14 +21,14 @@ mod line;
 mod marks;
 mod memo;
 mod plane_count;
+mod planes;
 mod rows;
 mod split;
 mod tables;
-mod unit;
 
 pub use count::Count;
 pub use counting::{count_at, count_over, count_zeros};
 pub use l3_region::{QuadTable, Regions, Split};
 pub use laws::counts_are_least;
 pub use memo::Memo;
-pub use unit::{Planes, classes_at, is_codable_at, no_planes, pairs_at, set, split_at};
+pub use planes::{Planes, classes_at, is_codable_at, no_planes, pairs_at, set, split_at};

@@ -4,7 +4,7 @@ use Rattle.std.specs.List.{filter, range_with_len}
 use Rattle.l3_base.specs.Steps.{quarter_at}
 use Rattle.l3_quant.specs.Quantiser.{steps_of}
 use Rattle.l3_count.specs.Regions.{cheapest}
-use Rattle.l3_search.specs.declared.line.Step.{Step}
+use Rattle.l3_search.specs.declared.line_noise.Step.{Step}
 use Rattle.l3_search.specs.Noise.{scalefactor_bits, slen1_of, slen2_of}
 
 -- whether a scalefac_compress has room for a number of the first bands and one of the others

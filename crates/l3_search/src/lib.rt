@@ -15,16 +15,16 @@
 #![tactic(auto)]
 
 mod allowance;
-mod bands;
+mod band_noise;
 mod borrowing;
 mod laws;
-mod line;
+mod line_noise;
 mod reservoir;
 mod scalefactors;
 mod search;
 
 pub use allowance::{allowed, over, raise};
-pub use bands::noise;
+pub use band_noise::noise;
 pub use l3_count::{Count, Memo};
 pub use laws::{borrowing_is_covered, frame_end_is_exact, pick_exists, scalefactor_laws};
 pub use reservoir::{FrameEnd, Reserve};

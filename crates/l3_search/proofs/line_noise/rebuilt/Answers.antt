@@ -1,6 +1,6 @@
 use Rattle.std.proofs.Common.{◌≡◌, ◌*◌}
 use Rattle.l3_search.proofs.Rebuilt.{rebuilt_is}
-use Rattle.l3_search.proofs.line.rebuilt.Goals as goal
+use Rattle.l3_search.proofs.line_noise.rebuilt.Goals as goal
 
 pub nonzero_div-result : goal.nonzero_div-result
 nonzero_div-result c =

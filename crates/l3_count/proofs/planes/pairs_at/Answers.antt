@@ -4,7 +4,7 @@ use Rattle.l3_base.specs.Rates.{hertz_index_of}
 use Rattle.l3_count.specs.Marks.{line_steps}
 use Rattle.l3_count.proofs.GainLemmas.{pairs_are}
 use Rattle.l3_count.proofs.MarkLemmas.{equal_mark}
-use Rattle.l3_count.proofs.unit.pairs_at.Goals as goal
+use Rattle.l3_count.proofs.planes.pairs_at.Goals as goal
 
 pub returns-then-is_plain : goal.returns-then-is_plain
 returns-then-is_plain c lines are =

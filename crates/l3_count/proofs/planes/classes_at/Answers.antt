@@ -1,7 +1,7 @@
 use Rattle.std.proofs.Common.{get_or}
 use Rattle.l3_count.specs.Marks.{band_steps}
 use Rattle.l3_count.proofs.Codable.{band_class, codable_to}
-use Rattle.l3_count.proofs.unit.classes_at.Goals as goal
+use Rattle.l3_count.proofs.planes.classes_at.Goals as goal
 
 pub returns-clause-value : goal.returns-clause-value
 returns-clause-value c rate lines are codable b lt =

@@ -6,7 +6,7 @@ use Rattle.std.proofs.lemmas.List.Sums.{sum_by_more}
 use Rattle.l3_quant.specs.Quantiser.{quantised}
 use Rattle.l3_search.specs.Noise.{noise_of_line}
 use Rattle.l3_search.proofs.Rebuilt.{noise_of_value-same}
-use Rattle.l3_search.proofs.bands.sum_of_noise.Goals as goal
+use Rattle.l3_search.proofs.band_noise.sum_of_noise.Goals as goal
 
 pub loop-i-preserved : goal.loop-i-preserved
 loop-i-preserved c =

@@ -7,7 +7,7 @@ use Rattle.l3_quant.specs.Quantiser.{IsCodable}
 use Rattle.l3_quant.specs.Amplified.{quantised_bands}
 use Rattle.l3_search.specs.Noise.{noise_of, noises_of}
 use Rattle.l3_search.proofs.CodedLemmas.{codable-from_count, codable-not_above}
-use Rattle.l3_search.proofs.bands.noise.Goals as goal
+use Rattle.l3_search.proofs.band_noise.noise.Goals as goal
 
 -- all values can be coded
 whole : (c : goal.After-amp-in-loop-band-1) → c.all_amp-coded.result ≡ true

@@ -1,7 +1,7 @@
 use Rattle.l3_count.specs.Marks.{band_steps}
 use Rattle.l3_count.proofs.Codable.{codable_from, codable_to, first_below, first_few}
 use Rattle.std.proofs.Common.{get_or}
-use Rattle.l3_count.proofs.unit.is_codable_at.Goals as goal
+use Rattle.l3_count.proofs.planes.is_codable_at.Goals as goal
 
 pub returns : goal.returns
 returns c rate lines are =

@@ -4,7 +4,7 @@ use Rattle.l3_base.specs.Bands.{band_edges}
 use Rattle.l3_quant.specs.Quantiser.{steps_of}
 use Rattle.l3_quant.specs.Amplified.{quantised_bands}
 use Rattle.l3_count.proofs.GainLemmas.{plain_quantised}
-use Rattle.l3_count.proofs.unit.split_at.Goals as goal
+use Rattle.l3_count.proofs.planes.split_at.Goals as goal
 
 pub returns-clause-value : goal.returns-clause-value
 returns-clause-value c rate lines are =

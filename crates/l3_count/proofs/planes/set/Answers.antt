@@ -1,6 +1,6 @@
 use Rattle.std.proofs.Common.{List, ℤ, subst}
 use Rattle.l3_count.specs.Rows.{AreRows}
-use Rattle.l3_count.proofs.unit.set.Goals as goal
+use Rattle.l3_count.proofs.planes.set.Goals as goal
 
 pub returns : goal.returns
 returns c rate are =

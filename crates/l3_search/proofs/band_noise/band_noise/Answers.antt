@@ -8,7 +8,7 @@ use Rattle.l3_quant.specs.Quantiser.{quantised_lines}
 use Rattle.l3_quant.specs.Amplified.{band_gain}
 use Rattle.l3_quant.proofs.BandLemmas.{quantised_bands-band}
 use Rattle.l3_search.specs.Noise.{noise_of, noise_of_line}
-use Rattle.l3_search.proofs.bands.band_noise.Goals as goal
+use Rattle.l3_search.proofs.band_noise.band_noise.Goals as goal
 
 pub slice_bounds-sum_of_noise-count : goal.slice_bounds-sum_of_noise-count
 slice_bounds-sum_of_noise-count c = omega (arith, edge_rises c.args.rate c.args.band c.requires.rate c.requires.band)

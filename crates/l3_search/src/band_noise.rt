@@ -9,7 +9,7 @@ ghost use Rattle.l3_quant.specs.Amplified.{band_gain, quantised_bands};
 ghost use Rattle.l3_count.specs.Count.{count_of};
 ghost use Rattle.l3_search.specs.Noise.{noise_of_line, noise_of, noises_of};
 
-use crate::line::{line_noise, step_of};
+use crate::line_noise::{line_noise, step_of};
 use l3_base::{Amp, SampleRate, Spectrum, edge};
 use l3_count::Count;
 use l3_quant::all_amp;

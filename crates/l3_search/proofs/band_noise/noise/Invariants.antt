@@ -1,6 +1,6 @@
 use Rattle.std.proofs.Common.{◌≡◌, ℕ, ◌<◌, ◌^◌, get_or, length}
 use Rattle.l3_search.specs.Noise.{noise_of}
-use Rattle.l3_search.proofs.bands.noise.Given as goal
+use Rattle.l3_search.proofs.band_noise.noise.Given as goal
 
 abbrev pub invariant-loop-band : goal.invariant-loop-band
 invariant-loop-band l = record {

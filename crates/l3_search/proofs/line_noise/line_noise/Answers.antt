@@ -3,7 +3,7 @@ use Rattle.std.proofs.lemmas.Int.{ints}
 use Rattle.std.specs.Prelude.{unsigned_abs}
 use Rattle.l3_quant.specs.Reconstruction.{reconstructed}
 use Rattle.l3_search.proofs.Rebuilt.{noise_is, noise_small}
-use Rattle.l3_search.proofs.line.line_noise.Goals as goal
+use Rattle.l3_search.proofs.line_noise.line_noise.Goals as goal
 
 -- the product that the code makes
 made : (c : goal.After-from-3) → c.from-2.result * c.from-3.result ≡ c.abs_diff-error.result / 256 * (c.abs_diff-error.result / 256)
